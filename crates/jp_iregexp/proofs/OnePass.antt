@@ -1,10 +1,12 @@
 -- The turns of a class, in one pass.
-use Rattle.std.proofs.Common.{◌≡◌, ℕ, zero, suc, ◌+◌, ◌-◌, ◌<◌, ◌≤◌, ◌⊎◌, inl, inr, Bool, true, false, List, [], ◌++◌, length, get_or, arith, refl, sym, ◌∙◌, ap, subst, append-nil, Some}
+use Rattle.std.proofs.Common.{◌≡◌, ℕ, zero, suc, ◌+◌, ◌-◌, ◌<◌, ◌≤◌, ◌⊎◌, inl, inr, Bool, true, false, List, [], ◌++◌, length, get_or, IsTrue, arith, refl, sym, ◌∙◌, ap, subst, append-nil, Some}
 use Rattle.jp_iregexp.proofs.Bits.{below_or_not}
 use Rattle.jp_iregexp.proofs.Reaching.{AreSame, same_over, nothing_reach, nothing_only, one_reach, one_only, joined, between, reach_map, repeats_join, repeats_split}
 use Rattle.jp_iregexp.specs.declared.positions.PositionSet.{PositionSet}
 use Rattle.jp_iregexp.specs.Positions.{Has, IsSetOver, Reach, ReachFrom, AreEnds}
+use Rattle.jp_model.specs.Pattern.Classes.{in_class}
 use Rattle.jp_model.specs.Pattern.Language.{IsOne, Repeats, RepeatsWithin}
+use Rattle.jp_model.specs.Pattern.Tree.{CharClass}
 
 -- ---- scalars of the class one after another
 
@@ -96,10 +98,17 @@ begin_moves P text starts n inside fails = record {
     lowest zero p r = (let e = nothing_only text p (n + 1) r in omega (arith, e))
     lowest (suc c) p r = absurd (fails (last_one P text c p n r).passes)
 
-pub begin_on : (P : ℕ → Type 0) (text : List ℕ) (starts : PositionSet) (n begin next : ℕ) (passes : Bool) → n < length text → (passes ≡ true → P (get_or text n 0)) → (passes ≡ false → P (get_or text n 0) → ⊥)
+begin_on : (P : ℕ → Type 0) (text : List ℕ) (starts : PositionSet) (n begin next : ℕ) (passes : Bool) → n < length text → (passes ≡ true → P (get_or text n 0)) → (passes ≡ false → P (get_or text n 0) → ⊥)
     → (passes ≡ true → next ≡ begin) → (passes ≡ false → next ≡ n + 1) → IsBegin P text starts n begin → IsBegin P text starts (n + 1) next
 begin_on P text starts n begin next true inside holds fails stays moves i = subst (IsBegin P text starts (n + 1)) (sym (stays refl)) (begin_stays P text starts n begin inside (holds refl) i)
 begin_on P text starts n begin next false inside holds fails stays moves i = subst (IsBegin P text starts (n + 1)) (sym (moves refl)) (begin_moves P text starts n inside (fails refl))
+
+-- the same where the scalar is read and asked for
+pub begin_read : (class : CharClass) (text : List ℕ) (starts : PositionSet) (n begin next scalar : ℕ) (passes : Bool) → n < length text → scalar ≡ get_or text n 0 → passes ≡ in_class class scalar
+    → (passes ≡ true → next ≡ begin) → (passes ≡ false → next ≡ n + 1) → IsBegin (λ s. IsTrue (in_class class s)) text starts n begin → IsBegin (λ s. IsTrue (in_class class s)) text starts (n + 1) next
+begin_read class text starts n begin next scalar passes inside read asked stays moves i =
+    let tested : passes ≡ in_class class (get_or text n 0) = asked ∙ ap (in_class class) read in
+    begin_on (λ s. IsTrue (in_class class s)) text starts n begin next passes inside (λ t. sym tested ∙ t) (λ f h. let t : passes ≡ true = tested ∙ h in cc) stays moves i
 
 -- ---- the ends
 

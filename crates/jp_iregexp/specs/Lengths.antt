@@ -11,7 +11,7 @@ abbrev pub agrees : Option ℕ → ℕ → Bool
 agrees None n = true
 agrees (Some common) n = common == n
 
--- the length of so many turns of one, if none may follow
+-- the length of this number of turns, if none may follow
 abbrev pub length_of_turns : Option ℕ → (least : ℕ) (further : Option ℕ) → Option ℕ
 length_of_turns length least (Some zero) = option_and_then (λ n. bounded (n * least)) length
 length_of_turns length least further = None

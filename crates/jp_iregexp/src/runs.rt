@@ -62,13 +62,7 @@ fn begin_at(passes: bool, begin: usize, p: usize) -> usize
 
 /// The earliest start that is not before `begin` and no more than `most` before a position, where no such one is before `start`.
 #[inline(always)]
-fn leading(
-    starts: &PositionSet,
-    start: usize,
-    begin: usize,
-    most: usize,
-    p: usize,
-) -> Option<usize>
+fn leading(starts: &PositionSet, start: usize, begin: usize, most: usize, p: usize) -> Option<usize>
     requires has { Has starts.now start }
     requires fits { start + most < 2 ^ 64 }
     ensures next { IfSome result (λ next. Has starts.now next × begin ≤ next × p ≤ next + most) }
