@@ -6,6 +6,7 @@ FOLDER is for files. Every run has the usual stack of 8 MB, and a time within wh
 input does not. What needs more memory than the machine has free is left out, with a message.
 """
 import os
+import random
 import resource
 import subprocess
 import sys
@@ -309,6 +310,19 @@ def turns_in_turns(checks):
         text = "a" * length
         stated = rows([(1, "$[0]")], f'"{text}"') if matches else "= 0\n"
         checks.check(f"{pattern[:40]} on {length} scalars", answered(f'["{text}"]\n', f"query $[?match(@,'{pattern}')]\n"), (0, stated))
+    text = "a" * 200_000
+    pattern = f"((ab{text}){{2}}|a)*"
+    checks.check("a long part that is counted, from each position", answered(f'["{text}","{pattern}"]\n', "query $[?match(@,$[1])]\n"), (0, rows([(1, "$[0]")], f'"{text}"')))
+
+
+def many_words(checks):
+    """A search for one of many words, in a text that has the last of them at its end and the beginnings of all."""
+    rng = random.Random(1)
+    for count in (1_000, 3_000, 9_000):
+        chosen = ["".join(rng.choice("abcdefghijklm") for _ in range(rng.randrange(2, 4))) + "z" for _ in range(count)]
+        text = "".join(rng.choice("abcdefghijklm") for _ in range(40_000))
+        script = f"query $[?search(@,'{'|'.join(chosen)}')]\n"
+        checks.check(f"a search for {count} words", answered(f'["{text}","{text}{chosen[-1]}"]\n', script), (0, rows([(1, "$[1]")], f'"{text}{chosen[-1]}"')))
 
 
 def long_numbers(checks):
@@ -627,7 +641,7 @@ def main():
     checks = Checks()
     for part in (texts_of_brackets, memory_of_deep_lines, memory_of_what_is_remembered, texts_cut_short,
                  texts_of_backslashes, texts_of_each_form_of_tape, lines_behind_long_ones, objects_of_many_members,
-                 many_lines, lines_of_one_key, edits_of_many_lines, texts_of_numbers, texts_of_names, queries, patterns,
+                 many_lines, lines_of_one_key, edits_of_many_lines, texts_of_numbers, texts_of_names, queries, patterns, many_words,
                  long_texts, turns_in_turns, long_numbers, objects_turned, large_objects, filters_from_the_root,
                  filters_of_many_roots, questions_of_a_filter, lines_beyond_memory, lines_of_megabytes, nodes_one_by_one,
                  tables_of_many_columns,
