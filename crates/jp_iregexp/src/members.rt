@@ -85,6 +85,7 @@ impl PositionSet {
     }
 
     /// The first position in the set that is not below this one.
+    #[inline(never)]
     pub(crate) fn first_from(&self, low: usize) -> Option<usize>
         ensures first { IfSome result (IsFirstFrom self.now low) }
         ensures none { result ≡ None → (p : ℕ) → low ≤ p → Has self.now p → ⊥ }

@@ -72,5 +72,9 @@ fn leading(starts: &PositionSet, start: usize, begin: usize, most: usize, p: usi
     if begin <= start && p <= start + most {
         return Some(start);
     }
-    starts.first_from(begin.max(p.saturating_sub(most)))
+    let earliest = begin.max(p.saturating_sub(most));
+    if starts.contains(earliest) {
+        return Some(earliest);
+    }
+    starts.first_from(earliest)
 }
