@@ -3,7 +3,7 @@ jpq on the same collections.
 
     jpgrep_examples.py PROGRAM JPQ
 
-How an example is written stands at the head of the examples. Without an executable JPQ the comparison with it is left out.
+How an example is written stands at the head of the examples. Without an executable JPQ the comparison with it is skipped.
 """
 import array
 import fcntl
@@ -402,6 +402,7 @@ def beside_grep(room):
 
 
 def main():
+    skipped = 0
     files, examples = read_examples()
     for example in examples:
         example.run(files)
@@ -426,12 +427,14 @@ def main():
         if has_grep():
             beside_grep(room)
         else:
-            print("left out: the comparison with grep, as it is not GNU grep 3.5 or later")
+            print("skipped: the comparison with grep, as it is not GNU grep 3.5 or later")
+            skipped += 1
         if os.access(JPQ, os.X_OK):
             beside_jpq(room)
         else:
-            print(f"left out: the comparison with jpq, as there is none at {JPQ}")
-    print(f"{counts[1]} passed, {counts[0]} failed")
+            print(f"skipped: the comparison with jpq, as there is none at {JPQ}")
+            skipped += 1
+    print(f"jpgrep: {counts[1]} passed, {counts[0]} failed, {skipped} skipped")
     return 1 if counts[0] else 0
 
 

@@ -196,7 +196,8 @@ def each_refused(words, text, counts):
 
 def main():
     if not LIBRARY:
-        print("left out: every refusal, as there is no `cc` to build what refuses")
+        print("skipped: every refusal, as there is no `cc` with its headers to build what refuses")
+        print(f"jpgrep: 0 passed, 0 failed, {len(RUNS)} skipped")
         return 0
     for name, text in (("lines", LINES), ("sequence", SEQUENCE), ("ids", IDS)):
         with open(os.path.join(FOLDER, name), "wb") as file:
@@ -205,7 +206,7 @@ def main():
     refused = [each_refused(words, text, counts) for words, text in RUNS]
     print(f"jpgrep: {sum(number for number, _ in refused)} growths refused in {len(RUNS)} runs; "
           f"{sum(again for _, again in refused)} asked for again at once, and refused again")
-    print(f"{counts[True]} passed, {counts[False]} failed")
+    print(f"jpgrep: {counts[True]} passed, {counts[False]} failed, 0 skipped")
     return 1 if counts[False] else 0
 
 

@@ -47,5 +47,5 @@ for path in EXAMPLES:
             else:
                 wrong += 1
                 print(f"library: an example of {os.path.basename(path)}: {script[:200]!r}")
-print(f"library, examples: {passed} passed, {wrong} failed")
+print(f"library, examples: {passed} passed, {wrong} failed, 0 skipped")
 sys.exit(wrong > 0 or passed < 300)

@@ -3,7 +3,7 @@
     limits.py JPQ JPGREP FOLDER
 
 FOLDER is for files. Every run has the usual stack of 8 MB, and a time within which it has to end: what costs the square of its
-input does not. What needs more memory than the machine has free is left out, with a message.
+input does not. What needs more memory than the machine has free is skipped, with a message.
 """
 import os
 import random
@@ -20,10 +20,11 @@ CHECKED = "= {} lines, {} refused, 0 blank\n"
 
 
 class Checks:
-    """How many checks passed and failed."""
+    """How many checks passed, failed and were skipped."""
 
     passed = 0
     failed = 0
+    skipped = 0
 
     def check(self, name, got, stated):
         """Compares what a run gave with what is stated of it."""
@@ -626,7 +627,8 @@ def sizes(checks):
     """A collection and a script of at most 2^32 - 1 bytes. After their first line the
     files are one of zeros, with no block on the disk."""
     if available_memory() < 14 * 2**30:
-        print("left out: a collection and a script of 2^32 bytes, as less than 14 GiB of memory are free")
+        print("skipped: a collection and a script of 2^32 bytes, as less than 14 GiB of memory are free")
+        checks.skipped += 3
         return
     small, large = file_of("small", "1\n"), file_of("large", "check\n")
     os.truncate(large, MOST_BYTES + 1)
@@ -648,7 +650,7 @@ def main():
                  conditions_of_the_root, texts_from_the_root, counts_of_many_nodes, nodes_met_again, indexes_of_one_array,
                  checks_of_many_lines, queries_of_one_line, devices, sizes):
         part(checks)
-    print(f"{checks.passed} passed, {checks.failed} failed")
+    print(f"limits: {checks.passed} passed, {checks.failed} failed, {checks.skipped} skipped")
     return 1 if checks.failed else 0
 
 

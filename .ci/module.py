@@ -364,5 +364,5 @@ for name in library[0] if library else "./absent", "made":
     os.environ["JPQ_LIBRARY"] = name
     with jpq.open(LINES) as log:
         shows(f"what is found by {name}", "_Library" if library else "_Program", type(log._engine).__name__)
-print(f"jpq.py: {passed} passed, {failed} failed")
+print(f"jpq.py: {passed} passed, {failed} failed, 0 skipped")
 sys.exit(failed > 0)

@@ -82,7 +82,7 @@ def main(page, jpq, jpgrep, few):
         except RuntimeError as error:
             trial.check("the page goes on", str(error), "")
         print(f"page: Chromium {browser.version}")
-        print(f"page: {trial.passed} passed, {trial.failed} failed")
+        print(f"page: {trial.passed} passed, {trial.failed} failed, 0 skipped")
         return 1 if trial.failed else 0
 
 

@@ -13,14 +13,28 @@ def packed(data):
     return base64.b64encode(gzip.compress(data, 9, mtime=0)).decode()
 
 
+PACKED = re.compile(r'(<script type="text/plain" id="\w+">)([^<]*)(?=</script>)')
+
+
 def unpacked(sheet):
-    """The WebAssembly module of a page."""
+    """The text of a page with what is packed in it unpacked, so that pages compare whoever packed them; and its WebAssembly module."""
     with open(sheet, encoding="utf-8") as file:
-        return gzip.decompress(base64.b64decode(re.search(r'id="wasm">([^<]*)<', file.read())[1]))
+        page = file.read()
+    parts = {head: gzip.decompress(base64.b64decode(body)) for head, body in PACKED.findall(page)}
+    wasm = next(body for head, body in parts.items() if 'id="wasm"' in head)
+    return PACKED.sub(lambda found: found[1] + digest(parts[found[1]]), page), wasm
 
 
-def digest(text):
-    return f"'sha256-{base64.b64encode(hashlib.sha256(text.encode()).digest()).decode()}'"
+def is_made_of(top, sheet, out):
+    """Whether a page is the one that the files of the repository make with the engine in it; it is made once more in the file `out`."""
+    made, wasm = unpacked(sheet)
+    pathlib.Path(f"{out}.wasm").write_bytes(wasm)
+    make_sheet(top, f"{out}.wasm", out)
+    return unpacked(out)[0] == made
+
+
+def digest(data):
+    return f"'sha256-{base64.b64encode(hashlib.sha256(data).digest()).decode()}'"
 
 
 def make_sheet(top, wasm, out):
@@ -33,7 +47,7 @@ def make_sheet(top, wasm, out):
     worker, example = f"'use strict';\n{read(*WORKER)}", pathlib.Path(top, "examples/log.jsonl").read_bytes()
     parts = {"STYLE": style, "SCRIPT": script, "ENGINE": packed(worker.encode())}
     parts |= {"WASM": packed(pathlib.Path(wasm).read_bytes()), "EXAMPLE": packed(example)}
-    parts |= {"SCRIPT_DIGEST": digest(script), "STYLE_DIGEST": digest(style)}
+    parts |= {"SCRIPT_DIGEST": digest(script.encode()), "STYLE_DIGEST": digest(style.encode())}
     page = re.sub(r"@@(\w+)@@", lambda found: parts[found[1]], read("page.html")).encode()
     pathlib.Path(out).write_bytes(page)
     return len(page)

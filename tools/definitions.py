@@ -174,7 +174,7 @@ def main(words):
         start, end = f"<!-- made: {name} -->\n", "<!-- end -->\n"
         if start not in text or end not in text.split(start)[1]:
             print(f"docs/DEFINITIONS.md has no line {start.strip()}, or no {end.strip()} after it")
-            print("definitions: 0 passed, 1 failed")
+            print("definitions: 0 passed, 1 failed, 0 skipped")
             return 1
         before, rest = text.split(start)
         old, after = rest.split(end, 1)
@@ -189,7 +189,7 @@ def main(words):
         print(f"{line[0]} {'docs/DEFINITIONS.md' if line[0] == '-' else 'the comments'}: {line[1:]}")
     if differing:
         print("tools/definitions.py makes the tables anew")
-    print(f"definitions: {passed} passed, {len(differing)} failed")
+    print(f"definitions: {passed} passed, {len(differing)} failed, 0 skipped")
     return 1 if differing or not passed else 0
 
 
