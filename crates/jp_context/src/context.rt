@@ -1,6 +1,6 @@
 //! A writer of the rows that a search tells, which shows those that are selected and those near them.
 
-ghost use Rattle.std.specs.Prelude.{◌≡◌, ◌++◌, ◌||◌, [], ℕ, List, OnOk, IfOk, Some, false, is_err};
+ghost use Rattle.std.specs.Prelude.{◌≡◌, ◌++◌, ◌||◌, [], ℕ, List, OnOk, IfOk, Some, false, true, is_err};
 ghost use Rattle.std.specs.Io.{WritesAtMost};
 ghost use Rattle.std.specs.Io.KnownBytes.{Keeps, WriteAppends};
 ghost use Rattle.jp_context.specs.Groups.{context_text};
@@ -27,7 +27,9 @@ pub struct Context<W> {
     /// All that came, which proofs alone see: nothing is written anywhere.
     came: Watched<Sink>,
     out: Watched<W>,
+    /// Whether a growth was refused. A writer after it that failed is another fault, and is never taken for this one.
     is_full: bool,
+    ghost full: { is_full ≡ true → out.failed ≡ false },
     ghost begins: { HasBegun groups.layout.coloured groups.layout.before groups.layout.after came.taken out.taken },
     ghost rest: { is_full ≡ false → out.failed ≡ false → held.items ≡ open_row came.taken },
     ghost shows: { is_full ≡ false → out.failed ≡ false → (more : List ToldRow)
@@ -77,6 +79,7 @@ impl<W> Context<W> {
         ensures shown { self.is_full ≡ false → result.failed ≡ false
             → result.taken ≡ context_text self.groups.layout.coloured self.groups.layout.before self.groups.layout.after (told_rows self.came.taken) }
         ensures begins { HasBegun self.groups.layout.coloured self.groups.layout.before self.groups.layout.after self.came.taken result.taken }
+        ensures full { self.is_full ≡ true → result.failed ≡ false }
     {
         self.out
     }
@@ -127,6 +130,7 @@ impl<W: Write> Write for Context<W> {
             → self.new.out.taken ≡ context_text self.new.groups.layout.coloured self.new.groups.layout.before self.new.groups.layout.after (told_rows self.new.came.taken) }
         ensures begins { HasBegun self.new.groups.layout.coloured self.new.groups.layout.before self.new.groups.layout.after self.new.came.taken self.new.out.taken }
         ensures fault { (self.new.is_full || self.new.out.failed) ≡ falls_short result bytes.now }
+        ensures full { self.new.is_full ≡ true → self.new.out.failed ≡ false }
         ensures after { self.new.out.after ≡ self.old.out.after }
     {
         if self.is_full || self.out.failed() {
@@ -150,6 +154,9 @@ impl<W: Write> Write for Context<W> {
         ensures layout { self.new.groups.layout ≡ self.old.groups.layout }
         ensures taken { self.new.out.taken ≡ self.old.out.taken }
         ensures fault { (self.new.is_full || self.new.out.failed) ≡ is_err result }
+        ensures full { self.new.is_full ≡ self.old.is_full }
+        ensures kind { self.new.is_full ≡ true → self.new.out.failed ≡ false }
+        ensures flushed { OnOk result (self.new.out.unflushed ≡ false) }
         ensures after { self.new.out.after ≡ self.old.out.after }
     {
         if self.is_full || self.out.failed() {

@@ -66,7 +66,8 @@ impl Tally {
     ///
     /// If memory is refused, the tally is as before.
     fn count(&mut self) -> Result<(), AllocError>
-        ensures { self.new.came ≡ self.old.came }
+        ensures came { self.new.came ≡ self.old.came }
+        ensures full { self.new.is_full ≡ self.old.is_full }
     {
         let (kept, rest) = count_rows(self.alloc, &self.kept, &self.fresh)?;
         self.kept = kept;
@@ -78,7 +79,8 @@ impl Tally {
 impl Tally {
     /// Makes room for more: once much came since rows were counted, they are counted.
     fn make_room(&mut self) -> Result<(), AllocError>
-        ensures { self.new.came ≡ self.old.came }
+        ensures came { self.new.came ≡ self.old.came }
+        ensures full { self.new.is_full ≡ self.old.is_full }
     {
         let fresh = self.fresh.len();
         if fresh >= LEAST && fresh / 2 >= self.kept.text.len() {
@@ -91,6 +93,7 @@ impl Tally {
     fn take(&mut self, bytes: &[u8]) -> io::Result<usize>
         ensures bound { WritesAtMost result bytes.now }
         ensures bytes { Grew self.old.came.taken self.new.came.taken result bytes.now }
+        ensures full { self.new.is_full ≡ self.old.is_full }
     {
         if self.make_room().is_err() {
             return Err(io::ErrorKind::OutOfMemory.into());
@@ -148,17 +151,26 @@ impl Tally {
 
 /// The bytes that it has are those that came. A write fails where memory is refused, and the tally is then of no use.
 impl Write for Tally {
-    ghost use Rattle.std.specs.Prelude.{Some};
+    ghost use Rattle.std.specs.Prelude.{◌||◌, Some, is_err};
+    ghost use Rattle.std.specs.Io.KnownBytes.{Keeps, WriteAppends};
 
     ghost contents = { λ tally. Some tally.came.taken };
 
-    fn write(&mut self, bytes: &[u8]) -> io::Result<usize> {
+    fn write(&mut self, bytes: &[u8]) -> io::Result<usize>
+        ensures bound { WritesAtMost result bytes.now }
+        ensures bytes { WriteAppends (Some self.old.came.taken) (Some self.new.came.taken) result bytes.now }
+        ensures full { self.new.is_full ≡ (self.old.is_full || is_err result) }
+    {
         let taken = self.take(bytes);
         self.is_full |= taken.is_err();
         taken
     }
 
-    fn flush(&mut self) -> io::Result<()> {
+    fn flush(&mut self) -> io::Result<()>
+        ensures bytes { Keeps (Some self.old.came.taken) (Some self.new.came.taken) }
+        ensures full { self.new.is_full ≡ self.old.is_full }
+        ensures ok { is_err result ≡ false }
+    {
         Ok(())
     }
 }

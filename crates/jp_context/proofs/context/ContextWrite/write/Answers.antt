@@ -14,6 +14,7 @@ pub invariant_of-self : goal.invariant_of-self
 invariant_of-self g c =
     let s = c.args.self.now in
     record {
+      full = λ full. sym c.failed.ensures ∙ c.if-failed.false;
       begins = subst (λ (layout : Layout). HasBegun layout.coloured layout.before layout.after s.came.taken s.out.taken) (sym c.take_bytes.ensures.layout) s.begins;
       rest = λ full. absurd (false≢true (sym full));
       shows = λ full. absurd (false≢true (sym full));
@@ -30,6 +31,7 @@ invariant_of-self-then-is_err g c =
     let same : s.out.taken ++ text ≡ s.out.taken ++ c.deref.result.now = ap (λ (t : List ℕ). s.out.taken ++ t) (sym c.deref.ensures.value) in
     let failed : out.failed ≡ true = c.write_whole.ensures.fault ∙ (sym c.is_err.ensures.value ∙ c.if-is_err.true) in
     record {
+      full = λ full. absurd (false≢true (sym c.if-self.false ∙ full));
       begins = ∣ (
         bytes,
         written_begins _ c.write_whole.result s.out out c.deref.result.now (context_text next.layout.coloured next.layout.before next.layout.after (told_rows all)) c.write_whole.ensures.text
@@ -50,6 +52,7 @@ invariant_of-self-2 g c =
     let longer : c.falls_short-self.result ≡ false → came ≡ all =
     λ full. grew_by_all c.write-taken.result s.came.taken came bytes c.write-taken.ensures.taken (sym c.falls_short-self.ensures ∙ full) in
     record {
+      full = λ full. c.write_whole.ensures.fault ∙ (sym c.is_err.ensures.value ∙ c.if-is_err.false);
       begins = begins_grown next.layout c.write-taken.result s.came.taken came bytes out.taken c.write-taken.ensures.taken
           (written_begins _ c.write_whole.result s.out out c.deref.result.now (context_text next.layout.coloured next.layout.before next.layout.after (told_rows all)) c.write_whole.ensures.text
           (all_shown next all (s.out.taken ++ text) shows ∙ same));
