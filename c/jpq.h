@@ -89,7 +89,7 @@ enum {
     JPQ_LINE = 4,     /* there is no line of this number */
     JPQ_FORMAT = 5,   /* the text begins with the mark of another format, as compressed data do */
     JPQ_NONE = 6,     /* there is no pattern of this number */
-    JPQ_READ = 11,    /* a read failed: of bytes in memory none does */
+    JPQ_READ = 11,    /* a read failed, which no call answers: each reads bytes in memory */
     JPQ_SIZE = 12,    /* the collection has more bytes than it may have */
     JPQ_FRAMING = 13, /* bytes other than white space come before the first separator of a sequence */
     JPQ_SCRIPT = 14,  /* the script has more than 4,294,967,295 bytes */

@@ -41,7 +41,6 @@ survey_refused faults.Number text condition told = absurd told
 survey_refused faults.Question text condition (inl refused) = refused
 survey_refused faults.Question text condition (inr refused) = absurd (root_accepted refused)
 survey_refused faults.Format text condition told = absurd told
-survey_refused faults.Read text condition told = tt
 survey_refused faults.Memory text condition told = tt
 
 -- and nothing that is asked for values
@@ -50,5 +49,4 @@ values_refused faults.Number text units told = absurd told
 values_refused faults.Question text units (inl refused) = absurd (refused.0 refl)
 values_refused faults.Question text units (inr refused) = absurd (root_accepted refused)
 values_refused faults.Format text units told = absurd told
-values_refused faults.Read text units told = tt
 values_refused faults.Memory text units told = tt

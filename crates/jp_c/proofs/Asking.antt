@@ -59,7 +59,6 @@ pub told_of_whole : (fault : FilterFault) (A B : Type 0) → (A → B) → IsRef
 told_of_whole faults.Number A B f h = absurd h
 told_of_whole faults.Question A B f h = f h
 told_of_whole faults.Format A B f h = absurd h
-told_of_whole faults.Read A B f h = absurd h
 told_of_whole faults.Memory A B f h = tt
 
 -- a search that gave nothing up, and did not select as many lines as are wanted, came to the end

@@ -160,6 +160,7 @@ form_of name units rows numbered = record {
   spelling = rows.spelling;
   summary = summaries.Nothing;
   name = name;
+  told_name = name;
   named = false;
   null = false;
   numbered = numbered;
@@ -199,7 +200,6 @@ IsForeign text = (first : List ℕ) × Begins first text × (format : Format) ×
 -- why no rows of a text are found
 abbrev pub TellsUnread : FilterFault → List ℕ → Type 0
 TellsUnread faults.Format text = IsForeign text
-TellsUnread faults.Read text = Unit {0}
 TellsUnread faults.Memory text = Unit {0}
 TellsUnread _ text = ⊥
 
@@ -213,7 +213,6 @@ abbrev pub TellsFilterFault : FilterFault → (text condition queries : List ℕ
 TellsFilterFault faults.Number text condition queries rows = rows ≡ None
 TellsFilterFault faults.Question text condition queries rows = IsRefusedFor condition queries rows
 TellsFilterFault faults.Format text condition queries rows = IsForeign text
-TellsFilterFault faults.Read text condition queries rows = Unit {0}
 TellsFilterFault faults.Memory text condition queries rows = Unit {0}
 
 -- where nothing has the number, that alone is told

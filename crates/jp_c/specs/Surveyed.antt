@@ -28,5 +28,4 @@ abbrev pub TellsSurveyFault : FilterFault → (text condition : List ℕ) → Ty
 TellsSurveyFault faults.Number text condition = ⊥
 TellsSurveyFault faults.Question text condition = IsRefusedCondition condition
 TellsSurveyFault faults.Format text condition = IsForeign text
-TellsSurveyFault faults.Read text condition = Unit {0}
 TellsSurveyFault faults.Memory text condition = Unit {0}

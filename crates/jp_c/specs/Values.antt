@@ -29,5 +29,4 @@ abbrev pub TellsValuesFault : FilterFault → (text : List ℕ) → Option Units
 TellsValuesFault faults.Number text units = units ≡ None
 TellsValuesFault faults.Question text units = ⊥
 TellsValuesFault faults.Format text units = IsForeign text
-TellsValuesFault faults.Read text units = Unit {0}
 TellsValuesFault faults.Memory text units = Unit {0}

@@ -41,11 +41,10 @@ mod values;
 
 use fault::{fault_of, number_of, put_words};
 use handle::Jpq;
-use jp_cli::RunFault;
 use jp_lines::is_framed_text;
 use jp_model::{Framing, Watched};
 use jp_query::Refusal;
-use jp_store::{LoadFault, Store};
+use jp_store::Store;
 use lines::ShowFault;
 use patterns::tell_pattern;
 use question::FilterFault;
@@ -72,9 +71,6 @@ const FORMAT: u32 = 5;
 
 /// There is no pattern of this number.
 const NONE: u32 = 6;
-
-/// A read failed, which no read of bytes in memory does.
-const READ: u32 = 11;
 
 /// The collection has more bytes than it may have.
 const SIZE: u32 = 12;
@@ -103,7 +99,7 @@ fn framing_of(number: u32) -> Option<Framing>
 ///
 /// The framing is 0 for lines and 1 for a text sequence (RFC 7464), and else the status is 2. It is 12 where the collection has
 /// more bytes, 13 where bytes other than white space come before the first separator of a sequence, and 16 where it is neither
-/// and a growth was refused; at each of these the handle is not open. A read that fails would be 11: of bytes in memory none does.
+/// and a growth was refused; at each of these the handle is not open. Bytes in memory are read, and no read of them fails.
 #[unsafe(no_mangle)]
 pub extern "C" fn jpq_open(
     alloc: Global,
@@ -135,7 +131,6 @@ pub extern "C" fn jpq_open(
     let mut collection = Watched::new(collection);
     let store = match Store::load(alloc, framing, most, &mut collection) {
         Ok(store) => store,
-        Err(LoadFault::Read) => return READ,
         Err(_) => return MEMORY,
     };
     match Box::new(alloc, Session::new(alloc, store)) {
@@ -174,8 +169,7 @@ pub extern "C" fn jpq_ask(alloc: Global, handle: &mut Jpq, script: &[u8]) -> u32
     handle.put(session, alloc);
     match ended {
         Ok(()) => DONE,
-        Err(RunFault::Write | RunFault::Memory) => MEMORY,
-        Err(_) => READ,
+        Err(_) => MEMORY,
     }
 }
 
@@ -307,7 +301,6 @@ pub extern "C" fn jpq_filter(
         Err(FilterFault::Number) => NUMBER,
         Err(FilterFault::Question) => QUESTION,
         Err(FilterFault::Format) => FORMAT,
-        Err(FilterFault::Read) => READ,
         Err(FilterFault::Memory) => MEMORY,
     }
 }
@@ -347,7 +340,6 @@ pub extern "C" fn jpq_survey(
         Ok(()) => DONE,
         Err(FilterFault::Question) => QUESTION,
         Err(FilterFault::Format) => FORMAT,
-        Err(FilterFault::Read) => READ,
         Err(_) => MEMORY,
     }
 }
@@ -389,7 +381,6 @@ pub extern "C" fn jpq_values(
         }
         Err(FilterFault::Number) => NUMBER,
         Err(FilterFault::Format) => FORMAT,
-        Err(FilterFault::Read) => READ,
         Err(_) => MEMORY,
     }
 }
@@ -482,7 +473,7 @@ pub extern "C" fn jpq_run(
     ensures shut { (result ≡ 2) ⊎ (result ≡ 12) ⊎ (result ≡ 13) → handle.new.session ≡ None }
     ensures long { IfSome (framing_at framing) (λ framing. result ≡ 14 → (4294967295 < length script.now) × IsOpened (setup_of framing most) collection.now handle.new.session) }
     ensures done { IfSome (framing_at framing) (λ framing. result ≡ 0 → IsRun (setup_of framing most) collection.now script.now handle.new.session) }
-    ensures stopped { IfSome (framing_at framing) (λ framing. (result ≡ 11) ⊎ (result ≡ 16) → IsRunInPart (setup_of framing most) collection.now script.now handle.new.session) }
+    ensures stopped { IfSome (framing_at framing) (λ framing. result ≡ 16 → IsRunInPart (setup_of framing most) collection.now script.now handle.new.session) }
 {
     let status = jpq_open(alloc, collection, framing, most, handle);
     if status != DONE {

@@ -18,8 +18,6 @@ pub enum FilterFault {
     Question,
     /// The text begins with the mark of another format.
     Format,
-    /// A read failed, which no read of bytes in memory does.
-    Read,
     /// A growth was refused.
     Memory,
 }

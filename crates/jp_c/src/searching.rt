@@ -24,6 +24,7 @@ pub(crate) fn form_of<'a>(name: &'a str, units: Units, rows: Rows, numbered: boo
         spelling: rows.spelling,
         summary: Summary::Nothing,
         name,
+        told_name: name,
         named: false,
         null: false,
         numbered,
@@ -60,8 +61,8 @@ pub(crate) fn search_text<W: Write>(
             }
             Ok(came.counts.refused)
         }
-        Err(SearchFault::Read) => Err(FilterFault::Read),
         Err(SearchFault::Foreign(_)) => Err(FilterFault::Format),
+        // Bytes in memory are read, and no read of them fails.
         Err(_) => Err(FilterFault::Memory),
     }
 }

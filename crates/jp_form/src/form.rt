@@ -75,6 +75,8 @@ pub struct Form<'a> {
     pub summary: Summary,
     /// The name of the stream.
     pub name: &'a str,
+    /// The name as messages have it, in which no control character reaches a terminal.
+    pub told_name: &'a str,
     /// Whether the name stands in front of each row, with a colon.
     pub named: bool,
     /// Whether a NUL stands after the name, in place of the colon or the line feed.

@@ -19,6 +19,7 @@ without_colours form = record {
   spelling = form.spelling;
   summary = form.summary;
   name = form.name;
+  told_name = form.told_name;
   named = form.named;
   null = form.null;
   numbered = form.numbered;

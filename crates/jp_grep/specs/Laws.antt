@@ -18,13 +18,14 @@ use Rattle.jp_grep.specs.declared.question.Question.{Question}
 use Rattle.jp_grep.specs.declared.question.Wanted.TheVariants as wanted
 
 -- values with their paths and the numbers of their lines, as `-onp` prints them
-abbrev pub numbered_values : Summary → Bor (List ℕ) → Bool → ℕ → Form
-numbered_values summary name silent most = record {
+abbrev pub numbered_values : Summary → (name told : Bor (List ℕ)) → Bool → ℕ → Form
+numbered_values summary name told silent most = record {
   units = unit.Lines framings.Lines;
   shown = shown.Values true;
   spelling = spellings.Source;
   summary = summary;
   name = name;
+  told_name = told;
   named = false;
   null = false;
   numbered = true;
@@ -43,8 +44,8 @@ row_with_colon line (refusal_row n fault) = []
 -- Asked one query and no condition, the rows of each line are those that the query answers, node by node.
 abbrev pub RowsAreThoseOfAQuery : Type 0
 RowsAreThoseOfAQuery = (question : Question) (query : Segments) → each_of question ≡ None → queries_of question ≡ path root query ∷ [] → conditions_of question ≡ [] → question.wanted ≡ wanted.Matching
-    → (summary : Summary) (name : Bor (List ℕ)) (silent : Bool) (most n : ℕ) (line : List ℕ)
-    → item_rows question (numbered_values summary name silent most) n (line_item framings.Lines line) ≡ flat_map (row_with_colon line) (query_rows query n (status_of framings.Lines line))
+    → (summary : Summary) (name told : Bor (List ℕ)) (silent : Bool) (most n : ℕ) (line : List ℕ)
+    → item_rows question (numbered_values summary name told silent most) n (line_item framings.Lines line) ≡ flat_map (row_with_colon line) (query_rows query n (status_of framings.Lines line))
 
 -- two questions that ask the same, the one of each line, the other of each node that `$` selects, which is its root
 pub record AsksEachRoot (lines each : Question) : Type 0 where

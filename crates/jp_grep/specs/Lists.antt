@@ -39,6 +39,7 @@ list_form name = record {
   spelling = spellings.Canonical;
   summary = summaries.Nothing;
   name = name;
+  told_name = name;
   named = false;
   numbered = false;
   coloured = false;

@@ -18,13 +18,14 @@ use Rattle.jp_grep.specs.declared.question.Question.{Question}
 use Rattle.jp_grep.specs.declared.question.Wanted.TheVariants as wanted
 
 -- lines as they are, with nothing in front
-abbrev pub bare_lines : Summary → Bor (List ℕ) → Bool → ℕ → Form
-bare_lines summary name silent most = record {
+abbrev pub bare_lines : Summary → (name told : Bor (List ℕ)) → Bool → ℕ → Form
+bare_lines summary name told silent most = record {
   units = unit.Lines framings.Lines;
   shown = shown.Line false;
   spelling = spellings.Source;
   summary = summary;
   name = name;
+  told_name = told;
   named = false;
   null = false;
   numbered = false;
@@ -50,5 +51,5 @@ pub record IsSelectedOnce (root refused : Question) (form : Form) (n : ℕ) (lin
 
 abbrev pub EachLineIsSelectedOnce : Type 0
 EachLineIsSelectedOnce = (root refused : Question) → AsksRoot root → refused.wanted ≡ wanted.Refused
-    → (summary : Summary) (name : Bor (List ℕ)) (silent : Bool) (most n : ℕ) (line : List ℕ) → ¬ (status_of framings.Lines line ≡ blank)
-    → IsSelectedOnce root refused (bare_lines summary name silent most) n (line_item framings.Lines line)
+    → (summary : Summary) (name told : Bor (List ℕ)) (silent : Bool) (most n : ℕ) (line : List ℕ) → ¬ (status_of framings.Lines line ≡ blank)
+    → IsSelectedOnce root refused (bare_lines summary name told silent most) n (line_item framings.Lines line)

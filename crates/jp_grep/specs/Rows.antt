@@ -177,7 +177,7 @@ most_told = 10
 -- what is told of a line that comes after refused ones
 abbrev pub status_message : Form → (before : ℕ) → ℕ → (from_line : Option ℕ) → LineStatus → List ℕ
 status_message form before n from_line blank = []
-status_message form before n from_line (refused fault) = if ltb before most_told then refusal form.silent form.name.now n fault from_line else []
+status_message form before n from_line (refused fault) = if ltb before most_told then refusal form.silent form.told_name.now n fault from_line else []
 status_message form before n from_line (parsed t) = []
 
 -- the message on a line that is given up for want of memory, which is always wanted
@@ -196,7 +196,7 @@ refused_where true status = false
 
 abbrev pub message_where : (given_up : Bool) → Form → (before : ℕ) → ℕ → (from_line : Option ℕ) → LineStatus → List ℕ
 message_where false form before n from_line status = status_message form before n from_line status
-message_where true form before n from_line status = given_up_message form.name.now n from_line
+message_where true form before n from_line status = given_up_message form.told_name.now n from_line
 
 -- how many of its nodes are selected, as far as they are wanted: of one that is given up none, and of one that is not judged
 abbrev pub selected_in : Question → Item → ℕ

@@ -17,7 +17,7 @@ more_message name count = codes "jpgrep: " ++ name ++ codes ": " ++ decimal coun
 abbrev pub more_refused : Form → ℕ → List ℕ
 more_refused form count =
     if form.silent || not (ltb most_told count) then []
-    else more_message form.name.now (count - most_told)
+    else more_message form.told_name.now (count - most_told)
 
 -- all that is told when a search of these items ends
 abbrev pub told_of : Form → List Item → List ℕ

@@ -29,6 +29,7 @@ fn list_form<'a>(name: &'a str) -> Form<'a>
         spelling: Spelling::Canonical,
         summary: Summary::Nothing,
         name,
+        told_name: name,
         named: false,
         numbered: false,
         coloured: false,

@@ -89,7 +89,7 @@ pub(crate) fn tell_refused<E: Write>(
         return Ok(());
     }
     told(write_line_message(
-        form.name,
+        form.told_name,
         progress.number,
         fault.word(),
         from_line,
@@ -109,10 +109,10 @@ pub(crate) fn tell_given_up<E: Write>(
     messages: &mut Watched<E>,
 ) -> Result<(), SearchFault>
     requires working { messages.old.failed ≡ false }
-    ensures text { Writes E.contents messages.old messages.new result (line_message form.now.name.now number (codes "out of memory") from_line) }
+    ensures text { Writes E.contents messages.old messages.new result (line_message form.now.told_name.now number (codes "out of memory") from_line) }
     ensures tells { TellsOfMessages result messages.old messages.new }
 {
-    told(write_line_message(form.name, number, "out of memory", from_line, messages))
+    told(write_line_message(form.told_name, number, "out of memory", from_line, messages))
 }
 
 /// Whether a refused line is told, as messages are wanted and few were told.
@@ -163,5 +163,5 @@ pub(crate) fn tell_more<E: Write>(
     if form.silent || refused <= MOST_TOLD {
         return Ok(());
     }
-    told(write_more(form.name, refused - MOST_TOLD, messages))
+    told(write_more(form.told_name, refused - MOST_TOLD, messages))
 }

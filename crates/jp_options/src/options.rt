@@ -385,12 +385,14 @@ impl<'a> Options<'a> {
         }
     }
 
-    /// What is written of the file with this name, in colours or not. Refused lines that are selected are no fault.
-    pub fn form<'f>(&self, name: &'f str, coloured: bool) -> Form<'f>
+    /// What is written of the file with this name, which messages have as `told_name`, in colours or not. Refused lines that are
+    /// selected are no fault.
+    pub fn form<'f>(&self, name: &'f str, told_name: &'f str, coloured: bool) -> Form<'f>
         ensures shown { result.shown ≡ asked_rows self.now }
         ensures spelling { result.spelling ≡ asked_spelling self.now }
         ensures summary { result.summary ≡ asked_summary self.now }
         ensures name { result.name ≡ name.entry }
+        ensures told_name { result.told_name ≡ told_name.entry }
         ensures named { result.named ≡ asks_names self.now }
         ensures null { result.null ≡ self.now.null }
         ensures numbered { result.numbered ≡ asks_numbers self.now }
@@ -407,6 +409,7 @@ impl<'a> Options<'a> {
             spelling: self.spelling(),
             summary: self.summary(),
             name,
+            told_name,
             named: self.is_named(),
             null: self.null,
             numbered: self.is_numbered(),

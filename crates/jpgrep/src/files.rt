@@ -12,6 +12,7 @@ use jp_grep::{
 };
 use jp_model::Watched;
 use jp_options::Options;
+use jp_shown::shown;
 use std::alloc::AllocError;
 use std::fs;
 use std::io::{ErrorKind, IsTerminal, Read, Stderr, Write};
@@ -104,13 +105,33 @@ const GOES_ON: &str =
 /// How the standard input is named.
 pub(crate) const STANDARD_INPUT: &str = "(standard input)";
 
+/// The name of a file.
+#[derive(Clone, Copy)]
+struct FileName<'n> {
+    own: &'n str,
+    /// As messages have it: no control character of it reaches a terminal.
+    told: &'n str,
+}
+
+impl<'n> FileName<'n> {
+    /// A name without control characters.
+    fn same(name: &'n str) -> FileName<'n> {
+        FileName {
+            own: name,
+            told: name,
+        }
+    }
+}
+
 impl<W: Write + Drop> Searcher<'_, W> {
     /// Writes the header of a table.
     fn write_header(&mut self) -> Next {
         if !self.run.is_open() {
             return Next::Stop;
         }
-        let form = self.options.form(STANDARD_INPUT, self.coloured);
+        let form = self
+            .options
+            .form(STANDARD_INPUT, STANDARD_INPUT, self.coloured);
         let written = self.run.write_header(&form, self.options.columns());
         self.after_row(written)
     }
@@ -121,7 +142,9 @@ impl<W: Write + Drop> Searcher<'_, W> {
         if !self.run.is_open() {
             return Next::Stop;
         }
-        let mut form = self.options.form(STANDARD_INPUT, self.coloured);
+        let mut form = self
+            .options
+            .form(STANDARD_INPUT, STANDARD_INPUT, self.coloured);
         form.shown = Shown::Cells(Table::Canonical);
         form.numbered = false;
         let written = self.run.write_header(&form, &[]);
@@ -146,19 +169,20 @@ impl<W: Write + Drop> Searcher<'_, W> {
     }
 
     /// Tells of a file, where messages are wanted.
-    fn tell(&mut self, name: &str, message: &str) {
+    fn tell(&mut self, name: FileName<'_>, message: &str) {
         self.run.refuse();
         if !self.options.silent {
-            let _ = eprintln!(self.rt; "jpgrep: {name}: {message}");
+            let told = name.told;
+            let _ = eprintln!(self.rt; "jpgrep: {told}: {message}");
         }
     }
 
     /// Tells of a file that is data of another format, where messages are wanted.
-    fn tell_foreign(&mut self, name: &str, format: Format) -> Next {
-        let file = if name == STANDARD_INPUT {
+    fn tell_foreign(&mut self, name: FileName<'_>, format: Format) -> Next {
+        let file = if name.told == STANDARD_INPUT {
             None
         } else {
-            Some(name)
+            Some(name.told)
         };
         match foreign_message(self.rt.alloc(), file, format) {
             Ok(message) => self.tell(name, &message),
@@ -168,32 +192,33 @@ impl<W: Write + Drop> Searcher<'_, W> {
     }
 
     /// Tells where the rest of a file was passed over, whether messages are wanted or not, since answers may be missing.
-    fn tell_unread(&mut self, name: &str, unread: Unread) {
+    fn tell_unread(&mut self, name: FileName<'_>, unread: Unread) {
         if self.run.is_open() {
             self.run.flush_messages();
-            let why = limit_message(unread.limit);
+            let (told, why) = (name.told, limit_message(unread.limit));
             let _ = eprintln!(self.rt;
-                "jpgrep: {name}:{}: {why}; the rest is not searched",
+                "jpgrep: {told}:{}: {why}; the rest is not searched",
                 unread.line
             );
         }
     }
 
     /// Tells that the first line of a file begins a JSON text that goes on in the next one, unless nothing is printed.
-    fn hint(&mut self, name: &str) {
+    fn hint(&mut self, name: FileName<'_>) {
         if self.options.quiet || self.options.refused || !self.run.is_open() {
             return;
         }
         self.run.flush_messages();
-        let _ = eprintln!(self.rt; "jpgrep: {name}: {GOES_ON}");
+        let told = name.told;
+        let _ = eprintln!(self.rt; "jpgrep: {told}: {GOES_ON}");
     }
 
     /// Searches an open file.
-    fn search<R: Read + Drop>(&mut self, name: &str, input: R) -> Next {
+    fn search<R: Read + Drop>(&mut self, name: FileName<'_>, input: R) -> Next {
         if !self.run.is_open() {
             return Next::Stop;
         }
-        let form = self.options.form(name, self.coloured);
+        let form = self.options.form(name.own, name.told, self.coloured);
         let mut input = Input::new(Watched::new(Looking::new(input)));
         let found = self.run.search(&form, &mut input);
         let opening = input.into_reader().into_inner().opening();
@@ -226,7 +251,7 @@ impl<W: Write + Drop> Searcher<'_, W> {
     /// Searches an open file, unless the rows go to it.
     fn search_other<R: Read + Drop>(
         &mut self,
-        name: &str,
+        name: FileName<'_>,
         input: R,
         file: Option<RegularFile>,
     ) -> Next {
@@ -240,27 +265,37 @@ impl<W: Write + Drop> Searcher<'_, W> {
         self.search(name, input)
     }
 
-    /// Searches the file that an argument names.
-    fn search_word(&mut self, word: &str, stdin: StandardInput) -> Next {
-        if word == "-" {
-            return self.search_other(STANDARD_INPUT, stdin, RegularFile::of_input(self.rt));
-        }
-        match fs::open(self.rt, word) {
+    /// Searches a file that is to be opened.
+    fn search_named(&mut self, name: FileName<'_>) -> Next {
+        match fs::open(self.rt, name.own) {
             Ok(file) => {
                 let metadata = file.metadata();
                 if matches!(&metadata, Ok(found) if found.is_dir()) {
-                    self.tell(word, IS_DIRECTORY);
+                    self.tell(name, IS_DIRECTORY);
                     return Next::GoOn;
                 }
-                self.search_other(word, file, RegularFile::of(metadata))
+                self.search_other(name, file, RegularFile::of(metadata))
             }
             Err(error) => {
-                self.tell(
-                    word,
-                    unopened_message(word, self.options.refused, error.kind()),
-                );
+                let refused = self.options.refused;
+                self.tell(name, unopened_message(name.own, refused, error.kind()));
                 Next::GoOn
             }
+        }
+    }
+
+    /// Searches the file that an argument names.
+    fn search_word(&mut self, word: &str, stdin: StandardInput) -> Next {
+        if word == "-" {
+            let name = FileName::same(STANDARD_INPUT);
+            return self.search_other(name, stdin, RegularFile::of_input(self.rt));
+        }
+        match shown(self.rt.alloc(), word, usize::MAX) {
+            Ok(told) => self.search_named(FileName {
+                own: word,
+                told: &told,
+            }),
+            Err(_) => self.stop_for_memory(),
         }
     }
 
@@ -316,7 +351,7 @@ pub(crate) fn find_input(rt: &HostRuntime, options: &Options<'_>) -> StandardInp
 
 /// The file that rows may be added to while lines are read.
 fn find_output(rt: &HostRuntime, options: &Options<'_>) -> Option<RegularFile> {
-    let form = options.form(STANDARD_INPUT, false);
+    let form = options.form(STANDARD_INPUT, STANDARD_INPUT, false);
     let reads_on = form.most > 1 || form.trailing > 0 || options.has_header();
     if form.shown != Shown::Nothing && reads_on {
         RegularFile::of_output(rt)
@@ -332,7 +367,7 @@ fn is_coloured(rt: &HostRuntime, options: &Options<'_>) -> bool {
 
 /// Whether no file is looked at, since no line is wanted and no name of a file without one.
 fn reads_nothing(options: &Options<'_>) -> bool {
-    let form = options.form(STANDARD_INPUT, false);
+    let form = options.form(STANDARD_INPUT, STANDARD_INPUT, false);
     form.most == 0 && form.summary != Summary::NameWithout
 }
 

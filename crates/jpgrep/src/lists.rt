@@ -8,6 +8,7 @@ use jp_devices::StandardInput;
 use jp_grep::{Input, Listed, Question, SearchFault, read_list};
 use jp_model::Watched;
 use jp_options::Options;
+use jp_shown::shown;
 use std::alloc::AllocError;
 use std::fs;
 use std::io::Read;
@@ -78,15 +79,16 @@ impl<'r> ListReader<'r> {
         if word == "-" {
             return self.read(STANDARD_INPUT, StandardInput::find(self.rt, true));
         }
+        let told = shown(self.rt.alloc(), word, usize::MAX)?;
         match fs::open(self.rt, word) {
             Ok(file) => {
                 let metadata = file.metadata();
                 if matches!(&metadata, Ok(found) if found.is_dir()) {
-                    return Ok(self.tell(word, IS_DIRECTORY));
+                    return Ok(self.tell(&told, IS_DIRECTORY));
                 }
-                self.read(word, file)
+                self.read(&told, file)
             }
-            Err(error) => Ok(self.tell(word, open_message(error.kind()))),
+            Err(error) => Ok(self.tell(&told, open_message(error.kind()))),
         }
     }
 }

@@ -29,6 +29,7 @@ use clap::Error;
 use clap::error::ErrorKind;
 use jp_devices::refuse_word;
 use jp_options::{Options, pair_words, read_words};
+use jp_shown::{shown, shown_refusal};
 use jp_survey::Survey;
 use jp_tally::Tally;
 use std::alloc::AllocError;
@@ -44,17 +45,35 @@ const WARNED: u8 = 1;
 /// The exit status where something was refused or failed.
 const FAULT: u8 = 2;
 
+/// The characters of an option that is not known which are shown.
+const MOST_SHOWN: usize = 80;
+
+/// Says why the arguments are refused.
+fn tell_refused(rt: &HostRuntime, error: &Error) {
+    let told = format!(in rt.alloc(); "{error}").and_then(|text| shown_refusal(rt.alloc(), &text));
+    let _ = match told {
+        Ok(text) => eprint!(rt; "{text}"),
+        Err(_) => error.print(rt),
+    };
+}
+
 /// Prints the help or the version, or says why the arguments are refused, and gives the exit status. Of an option of grep or jq
 /// it says what to do instead.
 fn tell_words(rt: &HostRuntime, words: &[&str], error: &Error) -> u8 {
     if error.kind() == ErrorKind::UnknownArgument {
         if let Some((word, instead)) = find_foreign(words) {
-            let _ = eprintln!(rt; "jpgrep: no option '{word}': {instead}");
-            return FAULT;
+            if let Ok(word) = shown(rt.alloc(), word, MOST_SHOWN) {
+                let _ = eprintln!(rt; "jpgrep: no option '{word}': {instead}");
+                return FAULT;
+            }
         }
     }
+    if error.use_stderr() {
+        tell_refused(rt, error);
+        return FAULT;
+    }
     match error.print(rt) {
-        Ok(()) if error.exit_code() == 0 => TOLD,
+        Ok(()) => TOLD,
         Err(fault) if fault.kind() != io::ErrorKind::BrokenPipe => {
             let _ = eprintln!(rt; "jpgrep: {CANNOT_WRITE}");
             FAULT

@@ -1,23 +1,15 @@
 //! Patterns of a query that are not valid, and so match nothing: known before any line is read.
 
 use jp_patterns::{invalid_patterns, invalid_patterns_of};
+use jp_shown::shown;
 use jp_syntax::{Logical, Segment};
 use std::alloc::AllocError;
 
-/// Warns of a pattern that is not valid. Control characters are shown escaped.
+/// Warns of a pattern that is not valid.
 fn warn_of(rt: &HostRuntime, pattern: &str) -> Result<(), AllocError> {
-    let mut shown = String::new(rt.alloc());
-    for scalar in pattern.chars() {
-        if scalar.is_control() {
-            for escaped in scalar.escape_default() {
-                shown.push(escaped)?;
-            }
-        } else {
-            shown.push(scalar)?;
-        }
-    }
+    let pattern = shown(rt.alloc(), pattern, usize::MAX)?;
     let _ = eprintln!(rt;
-        "jpgrep: '{shown}' is not a valid I-Regexp (RFC 9485), so it matches nothing"
+        "jpgrep: '{pattern}' is not a valid I-Regexp (RFC 9485), so it matches nothing"
     );
     Ok(())
 }

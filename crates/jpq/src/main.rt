@@ -1,10 +1,12 @@
 //! jpq: JSONPath (RFC 9535) over JSON Lines, one JSON value per line.
 #![tactic(auto)]
 
+use clap::Error;
 use clap::error::ErrorKind;
 use jp_cli::{CollectionSource, End, Options, ScriptSource, read_words};
 use jp_devices::{StandardInput, refuse_word};
 use jp_model::Watched;
+use jp_shown::shown_refusal;
 use std::alloc::AllocError;
 use std::io::Read;
 use std::process::ExitCode;
@@ -59,18 +61,27 @@ fn run_options(rt: &HostRuntime, options: &Options<'_>) -> End {
     }
 }
 
+/// Says why the arguments are refused.
+fn tell_refused(rt: &HostRuntime, error: &Error) {
+    let told = format!(in rt.alloc(); "{error}").and_then(|text| shown_refusal(rt.alloc(), &text));
+    let _ = match told {
+        Ok(text) => eprint!(rt; "{text}"),
+        Err(_) => error.print(rt),
+    };
+}
+
 /// Reads the program's arguments, and does what they ask for.
 fn run_words(rt: &HostRuntime, words: &[&str]) -> End {
     match read_words(rt.alloc(), words) {
         Ok(options) => run_options(rt, &options),
         Err(error) if error.kind() == ErrorKind::OutOfMemory => End::Memory,
+        Err(error) if error.use_stderr() => {
+            tell_refused(rt, &error);
+            End::Words
+        }
         Err(error) => {
             let _ = error.print(rt);
-            if error.exit_code() == 0 {
-                End::Done
-            } else {
-                End::Words
-            }
+            End::Done
         }
     }
 }

@@ -56,6 +56,7 @@ fn searched(
         spelling: Spelling::Source,
         summary: Summary::Nothing,
         name: "x",
+        told_name: "x",
         named: false,
         null: false,
         numbered: false,

@@ -49,13 +49,13 @@ by_one root other asks refuses blank present = absurd (present refl)
 by_one root other asks refuses (refused fault) present = ap₂ (λ (a b : Bool). let m : ℕ = cond a 1 0 in let n : ℕ = cond b 1 0 in m + n) (ap wants_refused asks.wanted) (ap wants_refused refuses)
 by_one root other asks refuses (parsed t) present = ap₂ (λ (a b : List Node). length a + length b) (one_of root t asks) (none_of other t refuses)
 
-module _ (summary : Summary) (name : Bor (List ℕ)) (silent : Bool) (most n : ℕ) (line : List ℕ) where
+module _ (summary : Summary) (name told : Bor (List ℕ)) (silent : Bool) (most n : ℕ) (line : List ℕ) where
   -- no row stands around others
-  all_rows : (q : Question) (s : LineStatus) → status_rows q (bare_lines summary name silent most) n line None s ≡ selected_rows q (bare_lines summary name silent most) n line None s
-  all_rows q s = append-nil (selected_rows q (bare_lines summary name silent most) n line None s)
+  all_rows : (q : Question) (s : LineStatus) → status_rows q (bare_lines summary name told silent most) n line None s ≡ selected_rows q (bare_lines summary name told silent most) n line None s
+  all_rows q s = append-nil (selected_rows q (bare_lines summary name told silent most) n line None s)
 
   one_selected : (root other : Question) → AsksRoot root → other.wanted ≡ wanted.Refused → (s : LineStatus) → ¬ (s ≡ blank)
-      → concat (selected_rows root (bare_lines summary name silent most) n line None s) ++ concat (selected_rows other (bare_lines summary name silent most) n line None s) ≡ line ++ line_feed
+      → concat (selected_rows root (bare_lines summary name told silent most) n line None s) ++ concat (selected_rows other (bare_lines summary name told silent most) n line None s) ≡ line ++ line_feed
   one_selected root other asks refuses blank present = absurd (present refl)
   one_selected root other asks refuses (refused fault) present =
       ap₂ (λ (a b : Bool). concat (if a then (line ++ line_feed) ∷ [] else []) ++ concat (if b then (line ++ line_feed) ∷ [] else [])) (ap wants_refused asks.wanted) (ap wants_refused refuses)
@@ -67,12 +67,12 @@ module _ (summary : Summary) (name : Bor (List ℕ)) (silent : Bool) (most n : �
       ∙ append-nil (line ++ line_feed)
 
   one_row : (root other : Question) → AsksRoot root → other.wanted ≡ wanted.Refused → (s : LineStatus) → ¬ (s ≡ blank)
-      → concat (status_rows root (bare_lines summary name silent most) n line None s) ++ concat (status_rows other (bare_lines summary name silent most) n line None s) ≡ line ++ line_feed
+      → concat (status_rows root (bare_lines summary name told silent most) n line None s) ++ concat (status_rows other (bare_lines summary name told silent most) n line None s) ≡ line ++ line_feed
   one_row root other asks refuses s present =
       ap₂ (λ (a b : List (List ℕ)). concat a ++ concat b) (all_rows root s) (all_rows other s) ∙ one_selected root other asks refuses s present
 
 pub returns : goal.returns
-returns c = λ root other asks refuses summary name silent most n line present. record {
+returns c = λ root other asks refuses summary name told silent most n line present. record {
   once = by_one root other asks refuses (status_of framings.Lines line) present;
-  same = one_row summary name silent most n line root other asks refuses (status_of framings.Lines line) present;
+  same = one_row summary name told silent most n line root other asks refuses (status_of framings.Lines line) present;
 }

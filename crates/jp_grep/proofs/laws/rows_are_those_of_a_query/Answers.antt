@@ -25,9 +25,9 @@ use Rattle.jp_grep.specs.declared.question.Wanted.{Wanted}
 use Rattle.jp_grep.specs.declared.question.Wanted.TheVariants as wanted
 use Rattle.jp_grep.proofs.laws.rows_are_those_of_a_query.Goals as goal
 
-module _ (summary : Summary) (name : Bor (List ℕ)) (silent : Bool) (most n : ℕ) (line : List ℕ) where
+module _ (summary : Summary) (name told : Bor (List ℕ)) (silent : Bool) (most n : ℕ) (line : List ℕ) where
   abbrev row_of : Node → List ℕ
-  row_of = value_row (numbered_values summary name silent most) true n line
+  row_of = value_row (numbered_values summary name told silent most) true n line
 
   each : (ns : List Node) → concat (map row_of ns) ≡ flat_map (row_with_colon line) (map (node_row n) ns)
   each [] = refl
@@ -52,7 +52,7 @@ module _ (summary : Summary) (name : Bor (List ℕ)) (silent : Bool) (most n : �
   where_matching purposes.Columns queries t ns e = root_rows queries t ∙ ap (λ l. concat (map row_of l)) e
 
   selected_by : (question : Question) (query : Segments) → each_of question ≡ None → queries_of question ≡ path root query ∷ [] → conditions_of question ≡ [] → question.wanted ≡ wanted.Matching → (s : LineStatus)
-      → concat (selected_rows question (numbered_values summary name silent most) n line None s) ≡ flat_map (row_with_colon line) (query_rows query n s)
+      → concat (selected_rows question (numbered_values summary name told silent most) n line None s) ≡ flat_map (row_with_colon line) (query_rows query n s)
   selected_by question query of_lines queries conditions matching blank = refl
   selected_by question query of_lines queries conditions matching (refused fault) = ap (λ (b : Bool). concat (if b then [] else [])) (ap wants_refused matching)
   selected_by question query of_lines queries conditions matching (parsed t) =
@@ -67,9 +67,9 @@ module _ (summary : Summary) (name : Bor (List ℕ)) (silent : Bool) (most n : �
 
   -- no row stands around others
   by_status : (question : Question) (query : Segments) → each_of question ≡ None → queries_of question ≡ path root query ∷ [] → conditions_of question ≡ [] → question.wanted ≡ wanted.Matching → (s : LineStatus)
-      → concat (status_rows question (numbered_values summary name silent most) n line None s) ≡ flat_map (row_with_colon line) (query_rows query n s)
+      → concat (status_rows question (numbered_values summary name told silent most) n line None s) ≡ flat_map (row_with_colon line) (query_rows query n s)
   by_status question query of_lines queries conditions matching s =
-      ap concat (append-nil (selected_rows question (numbered_values summary name silent most) n line None s)) ∙ selected_by question query of_lines queries conditions matching s
+      ap concat (append-nil (selected_rows question (numbered_values summary name told silent most) n line None s)) ∙ selected_by question query of_lines queries conditions matching s
 
 pub returns : goal.returns
-returns c = λ question query of_lines queries conditions matching summary name silent most n line. by_status summary name silent most n line question query of_lines queries conditions matching (status_of framings.Lines line)
+returns c = λ question query of_lines queries conditions matching summary name told silent most n line. by_status summary name told silent most n line question query of_lines queries conditions matching (status_of framings.Lines line)

@@ -1,0 +1,2 @@
+-- Texts as they are shown, scalar by scalar.
+mod Showing

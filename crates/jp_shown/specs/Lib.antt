@@ -1,0 +1,2 @@
+-- Texts from outside as messages show them.
+pub mod Texts
