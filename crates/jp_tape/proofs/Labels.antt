@@ -10,7 +10,7 @@ use Rattle.jp_model.specs.Json.Spelling.{SpellsString, SpellsName, SpellsLabel, 
 use Rattle.jp_model.proofs.Reader.Lexical.{white_unique, span_is}
 use Rattle.jp_model.proofs.Reader.Bodies.{body_whole}
 use Rattle.jp_tape.specs.Places.{Stops}
-use Rattle.jp_tape.specs.Reading.{FoundLabel, NoLabel}
+use Rattle.jp_tape.specs.Reading.{IsLabel, FoundLabel, NoLabel}
 
 body_found_same : (line : List ℕ) (i j k : ℕ) (p q : List ℕ) → SpellsBody line i j p → Has line j 0x22 → SpellsBody line i k q → Has line k 0x22 → (let x : List ℕ × ℕ = (q, k) in x) ≡ (p, j)
 body_found_same line i j k p q a c b d = same_Some _ _ (sym (body_whole line i k q b d) ∙ body_whole line i j p a c)
@@ -46,7 +46,7 @@ only_name line from v n h s (Some o) place l r = let u = name_unique line from v
 
 -- a string, a colon and white space are a name
 pub found_name : (line : List ℕ) (from end colon value : ℕ) (b p : Bool) (points : List ℕ) → SpellsString line from end points → has_lone_surrogate points ≡ b → White line end colon → Has line colon 0x3A → White line (colon + 1) value → Stops line value →
-    (last : ℕ) → end ≡ last + 1 → FoundLabel line object from (record { name = Some (record { start = from + 1; end = last }); is_lone = b; is_plain = p; value = value })
+    (last : ℕ) → end ≡ last + 1 → FoundLabel line from (record { name = record { start = from + 1; end = last }; is_lone = b; is_plain = p; value = value })
 found_name line from end colon value b p points string lone before c after s last e =
     let same : string.last ≡ last = omega (arith, string.end, e) in
     let name : Name = record { body = record { start = from + 1; end = last }; points = points } in
@@ -57,7 +57,7 @@ found_name line from end colon value b p points string lone before c after s las
       behind_quote = refl;
       colon = record { place = colon; before = subst (λ x. White line x colon) e before; is = c; after = after };
     } in
-    record { name = Some name; is_body = refl; surrogate = sym lone; spelled = spelled; only = only_name line from value name spelled s }
+    record { name = name; is_body = refl; surrogate = sym lone; label = record { spelled = spelled; only = only_name line from value name spelled s } }
 
 -- where no string stands, no name does
 pub no_string_no_name : (line : List ℕ) (from : ℕ) → ((to : ℕ) (points : List ℕ) → SpellsString line from to points → ⊥) → NoLabel line object from
@@ -66,8 +66,8 @@ no_string_no_name line from none (Some n) place l s i =
     none (n.body.end + 1) n.points (record { last = n.body.end; opens = l.opens; body = subst (λ x. SpellsBody line x n.body.end n.points) l.behind_quote l.body; closes = l.closes; end = refl })
 
 -- before an element nothing stands
-unfoldable pub found_none : (line : List ℕ) (from : ℕ) → FoundLabel line array from (record { name = None; is_lone = false; is_plain = true; value = from })
-found_none line from = record { name = None; is_body = refl; surrogate = refl; spelled = refl; only = only_none }
+pub no_label : (line : List ℕ) (from : ℕ) → IsLabel line array from from None
+no_label line from = record { spelled = refl; only = only_none }
   where
     only_none : (own : Option Name) (place : ℕ) → SpellsLabel line array from place own → Stops line place → (own ≡ None) × (place ≡ from)
     only_none None place l s = (refl, sym l)

@@ -2,17 +2,15 @@
 use Rattle.std.proofs.Common.{◌≡◌, ℕ, ◌+◌, ◌-◌, ◌*◌, ◌%◌, ◌^◌, ◌<◌, ◌≤◌, Bool, false, ◌||◌, List, [], ◌∷◌, ◌++◌, length, vec_capacity, sym, ◌∙◌, ap, ap₂, subst, refl, arith, Option, Some, None, append-nil, length-append}
 use Rattle.std.specs.Prelude.{Vec}
 use Rattle.std.specs.Global.{Global}
-use Rattle.std.proofs.lemmas.Option.{none-some}
 use Rattle.jp_model.specs.declared.Span.{Span}
 use Rattle.jp_model.specs.Json.Tree.{Tree, node, Value, null, boolean, number, string, container, Container, array, object, Children, no_child, child, Name, count_children, joined}
 use Rattle.jp_model.specs.Json.Faults.{name_has_lone_surrogate, has_surrogate, has_long_exponent, name_points, names, has_duplicate}
-use Rattle.jp_model.specs.Json.Spelling.{SpellsLabel}
-use Rattle.jp_nodes.specs.Words.{body_word, kind_code, nodes_below, node_count, value_node_count, children_node_count, label_word, head_word, span_word, container_code}
+use Rattle.jp_nodes.specs.Words.{kind_code, nodes_below, node_count, value_node_count, children_node_count, label_word, head_word, span_word, container_code}
 use Rattle.jp_nodes.specs.Kinds.{code_of}
 use Rattle.jp_tape.specs.declared.builder.nodes.Nodes.{Nodes}
 use Rattle.jp_tape.specs.declared.builder.tokens.Label.{Label}
 use Rattle.jp_tape.specs.declared.builder.tokens.Scalar.{Scalar}
-use Rattle.jp_tape.specs.Reading.{body_of, FoundLabel, FoundScalar, IsPlainLabel}
+use Rattle.jp_tape.specs.Reading.{FoundLabel, FoundScalar, IsPlainLabel}
 use Rattle.jp_tape.specs.Machine.{Frame, entered, open_count, open_words, open_names, next_parent, next_index, open_surrogate, open_long, open_duplicate, first_fault}
 use Rattle.jp_tape.specs.Reader.{after_value, Suits, SuitsIn}
 use Rattle.jp_tape.specs.Nodes.{AreOpen, Holds, NodesStand}
@@ -181,51 +179,34 @@ open_told line frames own room at kind old new inside suits some h w p l later =
 
 -- ---- a name is told
 
-pub name_told : (line : List ℕ) (from : ℕ) (frames : List Frame) (room : ℕ) (r : Label) (old new : Nodes) (f : FoundLabel line object from r) (s : Span) → r.name ≡ Some s → IsPlainLabel line r → Holds line old frames None room → new.words ≡ old.words → new.count ≡ old.count → new.container ≡ old.container →
-    new.label ≡ body_word 0 r.name → new.names.items ≡ old.names.items ++ record { body = s; is_plain = r.is_plain } ∷ [] → vec_capacity new.names ≡ vec_capacity old.names → ((a b c : Bool) → old.later ≡ first_fault a b c → new.later ≡ first_fault (a || r.is_lone) (b || false) c) → Holds line new frames f.name room
-name_told line from frames room r old new f s e plain h ws count place label names same later =
+pub name_told : (line : List ℕ) (from : ℕ) (frames : List Frame) (room : ℕ) (r : Label) (old new : Nodes) (f : FoundLabel line from r) → IsPlainLabel line r → Holds line old frames None room → new.words ≡ old.words → new.count ≡ old.count → new.container ≡ old.container →
+    new.label ≡ span_word r.name → new.names.items ≡ old.names.items ++ record { body = r.name; is_plain = r.is_plain } ∷ [] → vec_capacity new.names ≡ vec_capacity old.names → ((a b c : Bool) → old.later ≡ first_fault a b c → new.later ≡ first_fault (a || r.is_lone) (b || false) c) → Holds line new frames (Some f.name) room
+name_told line from frames room r old new f plain h ws count place label names same later =
     let lone = or_false (open_surrogate frames) in
     let nil = append-nil (open_names frames) in
-    let b : KeptName = record { body = s; is_plain = r.is_plain } in
-    let one : length (name_points f.name []) ≡ 1 = named_one f.name s (sym f.is_body ∙ e) in
+    let b : KeptName = record { body = r.name; is_plain = r.is_plain } in
     let size = ap (λ (xs : List KeptName). length xs) names ∙ length-append old.names.items (b ∷ []) in
     let before = h.name_count ∙ ap (λ (xs : List (List ℕ)). length xs) nil in
-    let after = length-append (open_names frames) (name_points f.name []) in
+    let after = length-append (open_names frames) (f.name.points ∷ []) in
     let room_names = h.name_capacity in
     record {
       words = ap (λ (v : Vec ℕ Global). v.items) ws ∙ h.words;
       count = count ∙ h.count;
       container = place ∙ h.container;
-      label = λ z. label ∙ (ap (λ (o : Option Span). body_word 0 o) f.is_body ∙ word f.name f.spelled);
+      label = λ z. label ∙ ap span_word f.is_body;
       later = later _ _ _ h.later ∙ same_first _ _ _ _ _ _ (ap₂ (λ (x y : Bool). x || y) lone f.surrogate) (or_false _) refl;
-      name_count = omega (arith, size, before, after, one);
+      name_count = omega (arith, size, before, after);
       names = λ z.
           let own : r.is_lone ≡ false = f.surrogate ∙ right_false _ _ z in
           ap (spelled_names line) names
           ∙ (map-append (spelled_name line) old.names.items (b ∷ [])
-          ∙ ap₂ (λ (xs ys : List (List ℕ)). xs ++ ys) (h.names (lone ∙ left_false _ _ z) ∙ nil) (sym (kept_text line object from r f s e own).1));
+          ∙ ap₂ (λ (xs : List (List ℕ)) (x : List ℕ). xs ++ x ∷ []) (h.names (lone ∙ left_false _ _ z) ∙ nil) (sym (kept_text line from r f own).1));
       kept = λ z.
           let own : r.is_lone ≡ false = f.surrogate ∙ right_false _ _ z in
           subst (AreKept line) (sym names)
-          (All-append (IsKept line) old.names.items (b ∷ []) (h.kept (lone ∙ left_false _ _ z)) (All-cons (IsKept line) b [] (kept_name line object from r f s r.is_plain e own (plain s e)) (λ k d l. absurd (omega (arith, l)))));
+          (All-append (IsKept line) old.names.items (b ∷ []) (h.kept (lone ∙ left_false _ _ z)) (All-cons (IsKept line) b [] (kept_name line from r f own plain) (λ k d l. absurd (omega (arith, l)))));
       opened = h.opened;
       capacity = subst (λ (v : Vec ℕ Global). length v.items + 3 * room ≤ vec_capacity v) (sym ws) h.capacity;
-      name_capacity = omega (arith, size, one, same, room_names);
+      name_capacity = omega (arith, size, same, room_names);
       few = h.few;
     }
-  where
-    word : (own : Option Name) → SpellsLabel line object from r.value own → body_word 0 (body_of own) ≡ label_word (next_index frames) own
-    word None l = absurd l
-    word (Some n) l = refl
-
-    named_one : (own : Option Name) (s : Span) → body_of own ≡ Some s → length (name_points own []) ≡ 1
-    named_one None s e = absurd (none-some s e)
-    named_one (Some n) s e = refl
-
--- a name is told where there is one
-pub no_name_told : {P : Type 0} (line : List ℕ) (from : ℕ) (r : Label) (f : FoundLabel line object from r) → r.name ≡ None → P
-no_name_told {P = P} line from r f e = go f.name f.spelled (sym f.is_body ∙ e)
-  where
-    go : (own : Option Name) → SpellsLabel line object from r.value own → body_of own ≡ None → P
-    go None l e = absurd l
-    go (Some n) l e = absurd (none-some n.body (sym e))

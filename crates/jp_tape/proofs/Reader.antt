@@ -81,15 +81,14 @@ first_next {line = line} {at = at} {from = from} {value = value} {before = befor
     let passed = v.roomy.passed in
     record {
       frames = entered kind at v.own ∷ v.frames;
-      own = n.found.name;
+      own = n.own;
       roomy = record { stack = e ∙ ap (λ (xs : List ℕ). xs ++ closing kind ∷ []) v.roomy.stack; capacity = omega (arith, capacity, p, m); passed = omega (arith, passed, fewer, on); closed = λ f. closed };
       shallow = omega (arith, shallow, opened_count, few, m);
-      suits = suits_label line kind from n.label.value n.found.name n.found.spelled;
+      suits = suits_label line kind from value n.own n.label.spelled;
       room = v.room - 1;
       enough = omega (arith, enough, fewer, on, m, opened_count, few);
       told = n.told (entered kind at v.own ∷ v.frames) (v.room - 1) (omega (arith, enough, opened_count, few, fewer)) (opened v.frames v.own v.room v.suits (omega (arith, enough, opened_count, few)) v.told);
-      leads = leads_on line (Value_at v.frames v.own at) (Value_at (entered kind at v.own ∷ v.frames) n.found.name value) v.leads
-          (subst (λ x. Alike line (Value_at v.frames v.own at) (Value_at (entered kind at v.own ∷ v.frames) n.found.name x)) (sym n.value) (enter_step line kind at from v.frames v.own o w s c n.label n.found));
+      leads = leads_on line (Value_at v.frames v.own at) (Value_at (entered kind at v.own ∷ v.frames) n.own value) v.leads (enter_step line kind at from v.frames v.own o w s c value n.own n.label);
       inside = i;
       ahead = a;
       begins = begins_inside line after.marks.now value a some closed;
@@ -176,15 +175,14 @@ comma_next {old = old} {new = new} {line = line} {at = at} {from = from} {value 
     let room = ap (λ (x : Vec ℕ Global). vec_capacity x) e in
     record {
       frames = frames;
-      own = m.found.name;
+      own = m.own;
       roomy = record { stack = ap (λ (x : Vec ℕ Global). x.items) e ∙ i.roomy.stack; capacity = omega (arith, capacity, room, d); passed = omega (arith, passed, fewer, on); closed = λ f. closed };
       shallow = omega (arith, shallow, d);
-      suits = suits_label line i.f.kind from m.label.value m.found.name m.found.spelled;
+      suits = suits_label line i.f.kind from value m.own m.label.spelled;
       room = i.room;
       enough = omega (arith, enough, fewer, on, d);
       told = m.told frames i.room (omega (arith, enough, deep, fewer)) i.told;
-      leads = leads_on line (After_value (i.f ∷ i.frames) i.own i.tree i.ended) (Value_at frames m.found.name value) i.leads
-          (subst (λ x. Alike line (After_value (i.f ∷ i.frames) i.own i.tree i.ended) (Value_at frames m.found.name x)) (sym m.value) (comma_step line i.f i.frames i.own i.tree i.ended at from i.white c v s m.label m.found));
+      leads = leads_on line (After_value (i.f ∷ i.frames) i.own i.tree i.ended) (Value_at frames m.own value) i.leads (comma_step line i.f i.frames i.own i.tree i.ended at from i.white c v s value m.own m.label);
       inside = l;
       ahead = a;
       begins = begins_inside line after.marks.now value a some closed;

@@ -100,8 +100,8 @@ found_boolean line b from r h k s l = record {
   only = only_read line from (spanned from r.end (boolean b)) (boolean_read line b from r.end h);
 }
 
-pub found_string : (line : List ℕ) (from to marks : ℕ) (b : Bool) (points : List ℕ) → SpellsString line from to points → has_lone_surrogate points ≡ b → FoundScalar line from (record { kind = kinds.Text; end = to; is_lone = b; is_long = false; marks = marks })
-found_string line from to marks b points h s = record {
+pub found_string : (line : List ℕ) (from to : ℕ) (b : Bool) (points : List ℕ) → SpellsString line from to points → has_lone_surrogate points ≡ b → FoundScalar line from (record { kind = kinds.Text; end = to; is_lone = b; is_long = false })
+found_string line from to b points h s = record {
   value = string points;
   is_kind = refl;
   leaf = refl;
@@ -114,9 +114,9 @@ found_string line from to marks b points h s = record {
   only = only_read line from (spanned from to (string points)) (string_read line from to points h);
 }
 
-pub found_number : (line : List ℕ) (from to marks : ℕ) (b : Bool) (m e : ℤ) → SpellsNumber line from to m e → Ended line to → is_long_exponent (numeral_of (bytes_between line from to)) ≡ b →
-    FoundScalar line from (record { kind = kinds.Number; end = to; is_lone = false; is_long = b; marks = marks })
-found_number line from to marks b m e h d l = record {
+pub found_number : (line : List ℕ) (from to : ℕ) (b : Bool) (m e : ℤ) → SpellsNumber line from to m e → Ended line to → is_long_exponent (numeral_of (bytes_between line from to)) ≡ b →
+    FoundScalar line from (record { kind = kinds.Number; end = to; is_lone = false; is_long = b })
+found_number line from to b m e h d l = record {
   value = number m e;
   is_kind = refl;
   leaf = refl;

@@ -8,10 +8,9 @@ use Rattle.jp_model.specs.Json.Spelling.{Spells, SpellsValue, SpellsFirst, Spell
 use Rattle.jp_model.specs.Json.Reader.{Bracket, lead_of}
 use Rattle.jp_model.proofs.Reader.Lexical.{white_unique, white_ended, end_ended, more_ended, span_is, closing_stops, comma_no_closing}
 use Rattle.jp_model.proofs.Reader.Leads.{stops, starts_inside, label_stops, label_no_closing}
-use Rattle.jp_tape.specs.declared.builder.tokens.Label.{Label}
 use Rattle.jp_tape.specs.declared.builder.tokens.Scalar.{Scalar}
 use Rattle.jp_tape.specs.Places.{Ended, Stops}
-use Rattle.jp_tape.specs.Reading.{FoundScalar, NoValue, FoundLabel, NoLabel}
+use Rattle.jp_tape.specs.Reading.{FoundScalar, NoValue, IsLabel, NoLabel}
 use Rattle.jp_tape.specs.Machine.{Frame, entered, grown, State, Value_at, After_value, Completes, CompletesAfter, Alike, IsStuck, Leads}
 use Rattle.jp_tape.proofs.Scalars.{value_at}
 
@@ -79,26 +78,26 @@ empty_step line kind from place frames own b w c =
 
 -- a container with a child
 enter_forth : (line : List ℕ) (kind : Container) (from place : ℕ) (frames : List Frame) (own : Option Name) (whole : Tree) → White line (from + 1) place → Stops line place → (Has line place (closing kind) → ⊥) →
-    (r : Label) → (l : FoundLabel line kind place r) →
+    (value : ℕ) (name : Option Name) → (l : IsLabel line kind place value name) →
     (children : Children) (to : ℕ) → SpellsFirst line kind (from + 1) to children → CompletesAfter line frames own (node (record { start = from; end = to }) (container kind children)) to whole →
-    Completes line (Value_at (entered kind from own ∷ frames) l.name r.value) whole
-enter_forth line kind from place frames own whole w s n r l no_child to first after =
+    Completes line (Value_at (entered kind from own ∷ frames) name value) whole
+enter_forth line kind from place frames own whole w s n value name l no_child to first after =
     let same : first.place ≡ place = white_unique line (from + 1) place first.place w s first.white (closing_stops line kind first.place first.bracket) in
     absurd (n (subst (λ x. Has line x (closing kind)) same first.bracket))
-enter_forth line kind from place frames own whole w s n r l (child name t more) to first after =
-    let same : first.0 ≡ place = white_unique line (from + 1) place first.0 w s first.1 (label_stops line kind first.0 name t first.2 first.3) in
-    let only = l.only name (span t).start (subst (λ x. SpellsLabel line kind x (span t).start name) same first.2) (stops line t first.3) in
+enter_forth line kind from place frames own whole w s n value name l (child other t more) to first after =
+    let same : first.0 ≡ place = white_unique line (from + 1) place first.0 w s first.1 (label_stops line kind first.0 other t first.2 first.3) in
+    let only = l.only other (span t).start (subst (λ x. SpellsLabel line kind x (span t).start other) same first.2) (stops line t first.3) in
     (t, only.1, first.3, (more, to, first.4, subst (λ x. CompletesAfter line frames own (node (record { start = from; end = to }) (container kind (child x t more))) to whole) only.0 after))
 
 pub enter_step : (line : List ℕ) (kind : Container) (from place : ℕ) (frames : List Frame) (own : Option Name) → Has line from (opening kind) → White line (from + 1) place → Stops line place → (Has line place (closing kind) → ⊥) →
-    (r : Label) → (l : FoundLabel line kind place r) →
-    Alike line (Value_at frames own from) (Value_at (entered kind from own ∷ frames) l.name r.value)
-enter_step line kind from place frames own b w s n r l =
+    (value : ℕ) (name : Option Name) → (l : IsLabel line kind place value name) →
+    Alike line (Value_at frames own from) (Value_at (entered kind from own ∷ frames) name value)
+enter_step line kind from place frames own b w s n value name l =
     record {
-      forth = λ whole h. let o = opened line kind from frames own whole b h in enter_forth line kind from place frames own whole w s n r l o.0 o.1 o.2 o.3;
+      forth = λ whole h. let o = opened line kind from frames own whole b h in enter_forth line kind from place frames own whole w s n value name l o.0 o.1 o.2 o.3;
       back = λ whole h.
           from_opened line kind from frames own whole b
-          (child l.name h.0 h.3.0, h.3.1, (place, w, subst (λ x. SpellsLabel line kind place x l.name) (sym h.1) l.spelled, h.2, h.3.2), h.3.3);
+          (child name h.0 h.3.0, h.3.1, (place, w, subst (λ x. SpellsLabel line kind place x name) (sym h.1) l.spelled, h.2, h.3.2), h.3.3);
     }
 
 enter_stuck_at : (line : List ℕ) (kind : Container) (from place to : ℕ) → White line (from + 1) place → Stops line place → (Has line place (closing kind) → ⊥) → NoLabel line kind place →
@@ -125,16 +124,16 @@ comma_stops line i h = ap is_white h.is
 
 -- after a comma
 comma_forth : (line : List ℕ) (f : Frame) (frames : List Frame) (own : Option Name) (t : Tree) (at next from : ℕ) (whole : Tree) → White line at next → Has line next 0x2C → White line (next + 1) from → Stops line from →
-    (r : Label) → (l : FoundLabel line f.kind from r) →
+    (value : ℕ) (name : Option Name) → (l : IsLabel line f.kind from value name) →
     (more : Children) (to : ℕ) → SpellsMore line f.kind at to more → CompletesAfter line frames f.name (node (record { start = f.start; end = to }) (container f.kind (joined f.done (child own t more)))) to whole →
-    Completes line (Value_at (grown f own t ∷ frames) l.name r.value) whole
-comma_forth line f frames own t at next from whole w c v s r l no_child to m after =
+    Completes line (Value_at (grown f own t ∷ frames) name value) whole
+comma_forth line f frames own t at next from whole w c v s value name l no_child to m after =
     let same : m.place ≡ next = white_unique line at next m.place w (comma_stops line next c) m.white (closing_stops line f.kind m.place m.bracket) in
     absurd (comma_no_closing line f.kind next c.is (subst (λ x. Has line x (closing f.kind)) same m.bracket))
-comma_forth line f frames own t at next from whole w c v s r l (child name u more) to m after =
+comma_forth line f frames own t at next from whole w c v s value name l (child other u more) to m after =
     let same : m.1.place ≡ next = white_unique line at next m.1.place w (comma_stops line next c) m.1.before (comma_stops line m.1.place m.1.is) in
-    let label : m.0 ≡ from = white_unique line (next + 1) from m.0 v s (subst (λ x. White line (x + 1) m.0) same m.1.after) (label_stops line f.kind m.0 name u m.2 m.3) in
-    let only = l.only name (span u).start (subst (λ x. SpellsLabel line f.kind x (span u).start name) label m.2) (stops line u m.3) in (
+    let label : m.0 ≡ from = white_unique line (next + 1) from m.0 v s (subst (λ x. White line (x + 1) m.0) same m.1.after) (label_stops line f.kind m.0 other u m.2 m.3) in
+    let only = l.only other (span u).start (subst (λ x. SpellsLabel line f.kind x (span u).start other) label m.2) (stops line u m.3) in (
       u,
       only.1,
       m.3,
@@ -143,21 +142,21 @@ comma_forth line f frames own t at next from whole w c v s r l (child name u mor
         to,
         m.4,
         subst (λ x. CompletesAfter line frames f.name (node (record { start = f.start; end = to }) (container f.kind x)) to whole)
-            (ap (λ x. joined f.done (child own t (child x u more))) only.0 ∙ sym (joined_assoc f.done own t (child l.name u more))) after,
+            (ap (λ x. joined f.done (child own t (child x u more))) only.0 ∙ sym (joined_assoc f.done own t (child name u more))) after,
       ),
     )
 
 pub comma_step : (line : List ℕ) (f : Frame) (frames : List Frame) (own : Option Name) (t : Tree) (at next from : ℕ) → White line at next → Has line next 0x2C → White line (next + 1) from → Stops line from →
-    (r : Label) → (l : FoundLabel line f.kind from r) →
-    Alike line (After_value (f ∷ frames) own t at) (Value_at (grown f own t ∷ frames) l.name r.value)
-comma_step line f frames own t at next from w c v s r l =
+    (value : ℕ) (name : Option Name) → (l : IsLabel line f.kind from value name) →
+    Alike line (After_value (f ∷ frames) own t at) (Value_at (grown f own t ∷ frames) name value)
+comma_step line f frames own t at next from w c v s value name l =
     record {
-      forth = λ whole h. comma_forth line f frames own t at next from whole w c v s r l h.0 h.1 h.2 h.3;
+      forth = λ whole h. comma_forth line f frames own t at next from whole w c v s value name l h.0 h.1 h.2 h.3;
       back = λ whole h. (
-        child l.name h.0 h.3.0,
+        child name h.0 h.3.0,
         h.3.1,
-        (from, record { place = next; before = w; is = c; after = v }, subst (λ x. SpellsLabel line f.kind from x l.name) (sym h.1) l.spelled, h.2, h.3.2),
-        subst (λ x. CompletesAfter line frames f.name (node (record { start = f.start; end = h.3.1 }) (container f.kind x)) h.3.1 whole) (joined_assoc f.done own t (child l.name h.0 h.3.0)) h.3.3,
+        (from, record { place = next; before = w; is = c; after = v }, subst (λ x. SpellsLabel line f.kind from x name) (sym h.1) l.spelled, h.2, h.3.2),
+        subst (λ x. CompletesAfter line frames f.name (node (record { start = f.start; end = h.3.1 }) (container f.kind x)) h.3.1 whole) (joined_assoc f.done own t (child name h.0 h.3.0)) h.3.3,
       );
     }
 

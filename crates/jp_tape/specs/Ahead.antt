@@ -1,7 +1,6 @@
 -- The marks that are to come while a line is read.
-use Rattle.std.specs.Prelude.{◌≡◌, ℕ, ◌-◌, ◌<◌, ◌≤◌, Bool, true, false, not, ◌||◌, List, [], ◌∷◌, length, drop, get_or, ◌==◌, Option, Some, None}
+use Rattle.std.specs.Prelude.{◌≡◌, ℕ, ◌-◌, ◌<◌, ◌≤◌, Bool, true, false, not, ◌||◌, List, [], ◌∷◌, length, drop, get_or, ◌==◌}
 use Rattle.std.specs.List.{filter, range_with_len}
-use Rattle.jp_model.specs.declared.Span.{Span}
 use Rattle.jp_model.specs.Characters.{is_white, is_structural, is_quote, is_backslash}
 use Rattle.jp_model.specs.Json.Places.{byte_at}
 use Rattle.jp_model.specs.Json.Marks.{is_mark, is_inside, is_escaped}
@@ -46,8 +45,3 @@ in_token b = not (is_white b || is_structural b || is_quote b || is_backslash b)
 -- such bytes stand from a place up to another
 abbrev pub IsSolid : List ℕ → ℕ → ℕ → Type 0
 IsSolid line from to = (k : ℕ) → from ≤ k → k < to → in_token (byte_at line k) ≡ true
-
--- how many marks a name and its colon have
-abbrev pub name_marks : Option Span → ℕ
-name_marks None = 0
-name_marks (Some body) = 3

@@ -8,10 +8,9 @@ use Rattle.jp_model.specs.Json.Spelling.{Text, opening, closing}
 use Rattle.jp_tape.specs.declared.builder.reader.Next.{Next}
 use Rattle.jp_tape.specs.declared.builder.reader.Next.TheVariants as nexts
 use Rattle.jp_tape.specs.declared.builder.reader.Reader.{Reader}
-use Rattle.jp_tape.specs.declared.builder.tokens.Label.{Label}
 use Rattle.jp_tape.specs.Places.{Stops}
 use Rattle.jp_tape.specs.Ahead.{IsAhead, IsClosed, IsNext}
-use Rattle.jp_tape.specs.Reading.{FoundLabel}
+use Rattle.jp_tape.specs.Reading.{IsLabel}
 use Rattle.jp_tape.specs.Machine.{Frame, grown, Value_at, After_value, Leads, open_depth}
 
 -- what was told of a line: these containers are open, the next value has this name, and there is room for as much more as the
@@ -43,11 +42,10 @@ Listens stands = (line : List ℕ) × (frames : List Frame) × (own : Option Nam
 
 -- the name of a child, where it has one, was read and told, and its value begins at a place
 pub record IsNamed (old new : List ℕ → Told → Type 0) (line : List ℕ) (kind : Container) (from at : ℕ) (before after : Reader) : Type 0 where
-  pub label : Label
-  pub found : FoundLabel line kind from label
-  pub value : at ≡ label.value
+  pub own : Option Name
+  pub label : IsLabel line kind from at own
   pub fewer : length after.marks.now ≤ length before.marks.now
-  pub told : (frames : List Frame) (room : ℕ) → 0 < room → old line (Up_to frames None room) → new line (Up_to frames found.name room)
+  pub told : (frames : List Frame) (room : ℕ) → 0 < room → old line (Up_to frames None room) → new line (Up_to frames own room)
 
 -- the closing brackets of open containers, the innermost last
 abbrev pub closings : List Frame → List ℕ

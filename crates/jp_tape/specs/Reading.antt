@@ -1,13 +1,12 @@
 -- What the readers of single tokens answer.
-use Rattle.std.specs.Prelude.{◌≡◌, ℕ, ◌+◌, ◌^◌, ◌<◌, true, false, List, [], length, Option, Some, None, IsUtf8}
-use Rattle.jp_model.specs.declared.Span.{Span}
+use Rattle.std.specs.Prelude.{◌≡◌, ℕ, ◌+◌, ◌^◌, ◌<◌, true, false, List, [], length, Option, Some, IsUtf8}
 use Rattle.jp_model.specs.declared.LineFault.TheVariants as line_faults
 use Rattle.jp_model.specs.Json.Places.{Has}
-use Rattle.jp_model.specs.Json.Strings.{SpellsBody}
+use Rattle.jp_model.specs.Json.Strings.{SpellsBody, has_lone_surrogate}
 use Rattle.jp_model.specs.Json.Marks.{may_begin}
 use Rattle.jp_tape.specs.Ahead.{IsClosed, IsPassed}
-use Rattle.jp_model.specs.Json.Tree.{Tree, node, Value, Container, Name, span}
-use Rattle.jp_model.specs.Json.Faults.{value_depth, value_has_surrogate, value_has_long_exponent, value_has_duplicate, name_has_lone_surrogate}
+use Rattle.jp_model.specs.Json.Tree.{Tree, node, Value, Container, object, Name, span}
+use Rattle.jp_model.specs.Json.Faults.{value_depth, value_has_surrogate, value_has_long_exponent, value_has_duplicate}
 use Rattle.jp_model.specs.Json.Spelling.{Spells, SpellsValue, SpellsLabel}
 use Rattle.jp_tape.specs.declared.builder.BuildFault.{BuildFault}
 use Rattle.jp_tape.specs.declared.builder.BuildFault.TheVariants as faults
@@ -23,11 +22,6 @@ pub record IsReadable (line : List ℕ) (escape : ℕ) : Type 0 where
   pub utf8 : IsUtf8 line
   pub room : length line < 2 ^ 32
   pub unescaped : IsUnescaped line escape
-
--- where the body of a name stands
-abbrev pub body_of : Option Name → Option Span
-body_of None = None
-body_of (Some name) = Some name.body
 
 -- a value that is no container stands there, and no other one can
 pub record FoundScalar (line : List ℕ) (from : ℕ) (r : Scalar) : Type 0 where
@@ -56,17 +50,21 @@ pub record Closes (line ms : List ℕ) (from last : ℕ) : Type 0 where
 abbrev pub NoValue : List ℕ → ℕ → Type 0
 NoValue line from = (t : Tree) → (span t).start ≡ from → Spells line t → Ended line (span t).end → ⊥
 
--- what stands before a child's value, and nothing else can
-pub record FoundLabel (line : List ℕ) (kind : Container) (from : ℕ) (r : Label) : Type 0 where
-  pub name : Option Name
-  pub is_body : r.name ≡ body_of name
-  pub surrogate : r.is_lone ≡ name_has_lone_surrogate name
-  pub spelled : SpellsLabel line kind from r.value name
-  pub only : (own : Option Name) (place : ℕ) → SpellsLabel line kind from place own → Stops line place → (own ≡ name) × (place ≡ r.value)
+-- this name, or none, stands before a child's value, and nothing else can
+pub record IsLabel (line : List ℕ) (kind : Container) (from value : ℕ) (name : Option Name) : Type 0 where
+  pub spelled : SpellsLabel line kind from value name
+  pub only : (own : Option Name) (place : ℕ) → SpellsLabel line kind from place own → Stops line place → (own ≡ name) × (place ≡ value)
+
+-- the name of a member does
+pub record FoundLabel (line : List ℕ) (from : ℕ) (r : Label) : Type 0 where
+  pub name : Name
+  pub is_body : r.name ≡ name.body
+  pub surrogate : r.is_lone ≡ has_lone_surrogate name.points
+  pub label : IsLabel line object from r.value (Some name)
 
 -- where the label says so, each byte of the name stands for itself
 abbrev pub IsPlainLabel : List ℕ → Label → Type 0
-IsPlainLabel line r = (body : Span) → r.name ≡ Some body → r.is_plain ≡ true → ArePlain line body.start body.end
+IsPlainLabel line r = r.is_plain ≡ true → ArePlain line r.name.start r.name.end
 
 -- nothing stands before a value there
 abbrev pub NoLabel : List ℕ → Container → ℕ → Type 0

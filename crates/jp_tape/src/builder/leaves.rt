@@ -22,14 +22,13 @@ use jp_nodes::Kind;
 /// A number, as a value.
 #[inline(always)]
 fn scalar_of(number: NumberEnd) -> Scalar
-    ensures { result ≡ record { kind = kinds.Number; end = number.end; is_lone = false; is_long = number.is_long; marks = 1 } }
+    ensures { result ≡ record { kind = kinds.Number; end = number.end; is_lone = false; is_long = number.is_long } }
 {
     Scalar {
         kind: Kind::Number,
         end: number.end,
         is_lone: false,
         is_long: number.is_long,
-        marks: 1,
     }
 }
 
@@ -55,7 +54,7 @@ impl Reader<'_> {
         let Some(text) = text_at(line, escape, self.marks, at) else {
             return Err(GRAMMAR);
         };
-        self.marks = marks_behind(self.marks, text.marks);
+        self.marks = marks_behind(self.marks, 2);
         listener.leaf(at, text);
         Ok(Next::After(next_token(line, self.marks, text.end)))
     }
@@ -73,15 +72,14 @@ impl Reader<'_> {
         requires found { FoundScalar line.now at leaf }
         requires within { (at < leaf.end) × (leaf.end ≤ length line.now) }
         requires token { in_token (byte_at line.now at) ≡ true }
-        requires marks { leaf.marks ≡ 1 }
-        requires passed { IsPassed line.now self.old.marks.now leaf.marks leaf.end }
+        requires passed { IsPassed line.now self.old.marks.now 1 leaf.end }
         requires next { IsValueNext (L.stands listener.old) line.now at self.old }
         ensures reached { IsReached (L.stands listener.new) line.now result self.new }
         ensures less { next_left line.now result < suc (length line.now - at) }
         ensures limit { self.new.most_depth ≡ self.old.most_depth }
         ensures lender { self.new.stack.ghost_name ≡ self.old.stack.ghost_name }
     {
-        self.marks = marks_behind(self.marks, leaf.marks);
+        self.marks = marks_behind(self.marks, 1);
         listener.leaf(at, leaf);
         Next::After(skip_white(line, self.marks, leaf.end))
     }
@@ -99,7 +97,7 @@ impl Reader<'_> {
         requires room { length line.now < 2 ^ 32 }
         requires some { 0 < length word.now }
         requires plain { IsTrue (list_all in_token word.now) }
-        requires found { (end : ℕ) → Reads line.now at end word.now → FoundScalar line.now at (record { kind = kind; end = end; is_lone = false; is_long = false; marks = 1 }) }
+        requires found { (end : ℕ) → Reads line.now at end word.now → FoundScalar line.now at (record { kind = kind; end = end; is_lone = false; is_long = false }) }
         requires none { ((end : ℕ) → Reads line.now at end word.now → ⊥) → NoValue line.now at }
         requires next { IsValueNext (L.stands listener.old) line.now at self.old }
         ensures reached { IfOk result (λ next. IsReached (L.stands listener.new) line.now next self.new) }
@@ -116,7 +114,6 @@ impl Reader<'_> {
             end,
             is_lone: false,
             is_long: false,
-            marks: 1,
         };
         Ok(self.pass_leaf(line, at, leaf, listener))
     }

@@ -1,7 +1,7 @@
 //! What is told of a text while it is read: its values, names and brackets, in the order of the line.
 
-ghost use Rattle.std.specs.Prelude.{◌∷◌, ◌-◌, ◌^◌, ◌<◌, ℕ, List, Option, None, IfOk};
-ghost use Rattle.jp_model.specs.Json.Tree.{node, container, object, no_child, Name};
+ghost use Rattle.std.specs.Prelude.{◌∷◌, ◌-◌, ◌^◌, ◌<◌, ℕ, List, Option, None, Some, IfOk};
+ghost use Rattle.jp_model.specs.Json.Tree.{node, container, no_child, Name};
 ghost use Rattle.jp_nodes.specs.Kinds.{container_if};
 ghost use Rattle.jp_tape.specs.Reading.{FoundScalar, FoundLabel, IsPlainLabel};
 ghost use Rattle.jp_tape.specs.Machine.{Frame, entered};
@@ -30,7 +30,7 @@ pub(super) trait Listener {
     /// The name of the member whose value comes next.
     fn name(&mut self, name: Label)
         requires listens { (line : List ℕ) × (frames : List Frame) × (room : ℕ) × (0 < room) × stands self.old line (Up_to frames None room) }
-        ensures { (line : List ℕ) (from : ℕ) (frames : List Frame) (room : ℕ) (found : FoundLabel line object from name) → IsPlainLabel line name → 0 < room → stands self.old line (Up_to frames None room) → stands self.new line (Up_to frames found.name room) };
+        ensures { (line : List ℕ) (from : ℕ) (frames : List Frame) (room : ℕ) (found : FoundLabel line from name) → IsPlainLabel line name → 0 < room → stands self.old line (Up_to frames None room) → stands self.new line (Up_to frames (Some found.name) room) };
 
     /// An array or an object that has children begins at `at`.
     fn open(&mut self, at: usize, is_object: bool)

@@ -17,7 +17,7 @@ use super::names::has_equal;
 use super::tokens::{Label, Scalar};
 use jp_model::LineFault;
 use jp_nodes::Kind;
-use jp_nodes::node::{container_kind, head, label_to_word, span_to_word, write_node};
+use jp_nodes::node::{container_kind, head, span_to_word, write_node};
 use std::alloc::{AllocError, Global};
 
 /// The nodes that have begun. It borrows nothing of any line.
@@ -156,12 +156,10 @@ impl Listener for Nodes {
 
     #[inline(always)]
     fn name(&mut self, name: Label) {
-        let Some(body) = name.name else {
-            return;
-        };
+        let body = name.name;
         let is_plain = name.is_plain;
         self.names.push_reserved(KeptName { body, is_plain });
-        self.label = label_to_word(name.name, 0);
+        self.label = span_to_word(body.start, body.end);
         note(&mut self.later, name.is_lone, false);
     }
 

@@ -8,7 +8,7 @@ ghost use Rattle.jp_model.specs.Json.Spelling.{SpellsString};
 ghost use Rattle.jp_model.specs.Json.Tree.{array, object};
 ghost use Rattle.jp_model.specs.Json.Marks.{may_begin};
 ghost use Rattle.jp_tape.specs.Places.{Stops, IsUnescaped, IsUnquoted};
-ghost use Rattle.jp_tape.specs.Ahead.{IsAhead, IsClosed, IsNext, IsPassed, first_or, name_marks};
+ghost use Rattle.jp_tape.specs.Ahead.{IsAhead, IsClosed, IsNext, IsPassed, first_or};
 ghost use Rattle.jp_tape.specs.Reading.{IsReadable, FoundScalar, NoValue, FoundLabel, NoLabel, IsPlainLabel, Closes};
 ghost use Rattle.jp_strings.specs.Plain.{ArePlain};
 
@@ -36,14 +36,12 @@ pub(super) struct Scalar {
     pub(super) is_lone: bool,
     /// Its exponent is too long.
     pub(super) is_long: bool,
-    /// How many marks it has.
-    pub(super) marks: usize,
 }
 
-/// What comes before the value of a child: in an object its name, and the place of the value.
+/// The name of a member, and the place of its value.
 #[derive(Clone, Copy)]
 pub(super) struct Label {
-    pub(super) name: Option<Span>,
+    pub(super) name: Span,
     /// A surrogate stands alone in the name.
     pub(super) is_lone: bool,
     /// Each byte of the name stands for itself.
@@ -134,10 +132,10 @@ pub(super) fn name_at(line: &[u8], escape: usize, marks: &[u32], from: usize) ->
     ensures within { IfSome result (λ r. (from ≤ r.value) × (r.value < length line.now)) }
     ensures marks { IfSome result (λ r. 3 < length marks.now) }
     ensures stops { IfSome result (λ r. Stops line.now r.value) }
-    ensures ahead { IfSome result (λ r. IsPassed line.now marks.now (name_marks r.name) r.value) }
-    ensures first { IfSome result (λ r. r.value ≡ first_or (drop (name_marks r.name) marks.now) (length line.now)) }
+    ensures ahead { IfSome result (λ r. IsPassed line.now marks.now 3 r.value) }
+    ensures first { IfSome result (λ r. r.value ≡ first_or (drop 3 marks.now) (length line.now)) }
     ensures plain { IfSome result (λ r. IsPlainLabel line.now r) }
-    ensures found { IfSome result (λ r. FoundLabel line.now object from r) }
+    ensures found { IfSome result (λ r. FoundLabel line.now from r) }
     ensures none { IfNone result (NoLabel line.now object from) }
 {
     if !is_byte(line, from, b'"') {
@@ -155,7 +153,7 @@ pub(super) fn name_at(line: &[u8], escape: usize, marks: &[u32], from: usize) ->
         end: (name.end - 1) as u32,
     };
     Some(Label {
-        name: Some(body),
+        name: body,
         is_lone: name.is_lone,
         is_plain: name.is_plain,
         value: next_mark(marks_behind(marks, 3)),
@@ -170,8 +168,7 @@ pub(super) fn text_at(line: &[u8], escape: usize, marks: &[u32], from: usize) ->
     requires ahead { IsAhead line.now from marks.now }
     requires two { 2 ≤ length marks.now }
     ensures within { IfSome result (λ r. (from < r.end) × (r.end ≤ length line.now)) }
-    ensures ahead { IfSome result (λ r. IsPassed line.now marks.now r.marks r.end) }
-    ensures marks { IfSome result (λ r. r.marks ≡ 2) }
+    ensures ahead { IfSome result (λ r. IsPassed line.now marks.now 2 r.end) }
     ensures more { IfSome result (λ r. IsClosed line.now marks.now → 2 < length marks.now) }
     ensures begins { IfSome result (λ r. may_begin line.now r.end ≡ true) }
     ensures found { IfSome result (λ r. FoundScalar line.now from r) }
@@ -185,6 +182,5 @@ pub(super) fn text_at(line: &[u8], escape: usize, marks: &[u32], from: usize) ->
         end: string.end,
         is_lone: string.is_lone,
         is_long: false,
-        marks: 2,
     })
 }

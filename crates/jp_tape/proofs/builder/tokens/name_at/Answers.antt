@@ -1,7 +1,4 @@
 use Rattle.std.proofs.Common.{◌≡◌, ℕ, ◌+◌, ◌-◌, ◌<◌, ◌≤◌, true, List, length-drop, length, drop, ap, subst, refl, arith}
-use Rattle.std.proofs.lemmas.Option.{same_Some}
-use Rattle.jp_model.specs.declared.Span.{Span}
-use Rattle.jp_strings.specs.Plain.{ArePlain}
 use Rattle.jp_model.specs.Characters.{is_structural}
 use Rattle.jp_model.specs.Json.Places.{byte_at, Has}
 use Rattle.jp_model.specs.Json.Marks.{may_begin}
@@ -81,7 +78,7 @@ returns c =
       stops = v.stops;
       ahead = record { within = k.passed.within; ahead = v.next.ahead };
       first = v.next.first;
-      plain = λ body s p. subst (λ (x : Span). ArePlain line x.start x.end) (same_Some _ _ s) (e.plain p);
+      plain = e.plain;
       found = found_name line c.args.from end colon c.next_mark.result c.in-Some.name.is_lone c.in-Some.name.is_plain f.0 f.1 f.2 k.there.white k.has v.white v.stops (end - 1) (omega (arith, from));
       none = tt;
     }

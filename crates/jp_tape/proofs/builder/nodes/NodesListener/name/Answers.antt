@@ -1,13 +1,10 @@
 use Rattle.std.proofs.Common.{refl, arith}
-use Rattle.jp_tape.proofs.Nodes.{name_told, no_name_told}
+use Rattle.jp_tape.proofs.Nodes.{name_told}
 use Rattle.jp_tape.proofs.builder.nodes.NodesListener.name.Goals as goal
-
-pub returns-in_default : goal.returns-in_default
-returns-in_default c line from frames room found plain some h = no_name_told line from c.args.name found c.in_default.is
 
 pub returns : goal.returns
 returns c line from frames room found plain some h =
-    name_told line from frames room c.args.name c.args.self.now _ found c.in-Some.body c.in-Some.is plain h refl refl refl c.label_to_word-self.ensures c.push_reserved.ensures.items c.push_reserved.ensures.capacity c.note.ensures
+    name_told line from frames room c.args.name c.args.self.now _ found plain h refl refl refl c.span_to_word-self.ensures c.push_reserved.ensures.items c.push_reserved.ensures.capacity c.note.ensures
 
 pub push_reserved-requires : goal.push_reserved-requires
 push_reserved-requires c =

@@ -1,20 +1,17 @@
-use Rattle.std.proofs.Common.{ℕ, List, length, sym, ap, subst, refl, arith, length-drop, None, false, true}
+use Rattle.std.proofs.Common.{ℕ, List, length, sym, ap, subst, refl, arith, length-drop, None, Some}
 use Rattle.jp_model.specs.Json.Tree.{Container}
-use Rattle.jp_tape.specs.declared.builder.tokens.Label.{Label}
 use Rattle.jp_tape.specs.Ahead.{IsClosed}
 use Rattle.jp_tape.specs.Reader.{IsNamed}
 use Rattle.jp_tape.proofs.More.{drop_closed}
 use Rattle.jp_nodes.specs.Kinds.{container_if}
-use Rattle.jp_tape.proofs.Labels.{found_none}
+use Rattle.jp_tape.proofs.Labels.{no_label}
 use Rattle.jp_tape.proofs.builder.reader.Reader.child.Goals as goal
 
 pub returns-then-not-is_object-clause-named : goal.returns-then-not-is_object-clause-named
-unfolding found_none
 returns-then-not-is_object-clause-named g c =
-    let none : Label = record { name = None; is_lone = false; is_plain = true; value = c.args.from } in
     let stands = g.L.Listener.stands c.args.listener.now in
     subst (λ (k : Container). IsNamed stands stands c.args.line.now k c.args.from c.args.from c.args.self.now c.args.self.now) (sym (ap container_if c.if-not-is_object.true))
-    (record { label = none; found = found_none c.args.line.now c.args.from; value = refl; fewer = omega arith; told = λ frames room some h. h })
+    (record { own = None; label = no_label c.args.line.now c.args.from; fewer = omega arith; told = λ frames room some h. h })
 
 pub returns-clause-named : goal.returns-clause-named
 returns-clause-named g c =
@@ -27,9 +24,8 @@ returns-clause-named g c =
     let new = g.L.Listener.stands c.name.new.self in
     subst (λ (k : Container). IsNamed old new c.args.line.now k c.args.from l.value before (record { marks = c.marks_behind-self.result; stack = before.stack; most_depth = before.most_depth })) (sym (ap container_if c.if-not-is_object.false))
     (record {
-      label = l;
-      found = e.found;
-      value = refl;
+      own = Some e.found.name;
+      label = e.found.label;
       fewer = omega (arith, left, count);
       told = λ frames room some h. c.name.ensures c.args.line.now c.args.from frames room e.found e.plain some h;
     })

@@ -24,28 +24,27 @@ returns-clause-reached g c =
     let enough = v.enough in
     let passed = v.roomy.passed in
     let above = shallow_open v.frames c.args.self.now.most_depth v.shallow in
-    let some = e.marks in
     let within = e.ahead.within in
     let left = ap length c.marks_behind-self.ensures in
-    let count = length-drop r.marks c.args.self.now.marks.now in
-    let closed : 0 < length v.frames → IsClosed line c.marks_behind-self.result.now = λ f. subst (λ (ms : List ℕ). IsClosed line ms) (sym c.marks_behind-self.ensures) (drop_closed line c.args.self.now.marks.now r.marks (v.roomy.closed f)) in
+    let count = length-drop 2 c.args.self.now.marks.now in
+    let closed : 0 < length v.frames → IsClosed line c.marks_behind-self.result.now = λ f. subst (λ (ms : List ℕ). IsClosed line ms) (sym c.marks_behind-self.ensures) (drop_closed line c.args.self.now.marks.now 2 (v.roomy.closed f)) in
     let t : Tree = node (record { start = c.args.at; end = r.end }) e.found.value in
     record {
       frames = v.frames;
       own = v.own;
       tree = t;
-      roomy = record { stack = v.roomy.stack; capacity = v.roomy.capacity; passed = omega (arith, passed, some, within, left, count); closed = closed };
+      roomy = record { stack = v.roomy.stack; capacity = v.roomy.capacity; passed = omega (arith, passed, within, left, count); closed = closed };
       shallow = subst (λ n. n ≤ c.args.self.now.most_depth) (flat_depth v.frames (depth t) e.found.flat) v.shallow;
       room = v.room - 1;
-      enough = omega (arith, enough, some, within, left, count, above);
-      told = c.leaf.ensures line v.frames v.own v.room e.found v.suits (omega (arith, enough, some, within, above)) v.told;
+      enough = omega (arith, enough, within, left, count, above);
+      told = c.leaf.ensures line v.frames v.own v.room e.found v.suits (omega (arith, enough, within, above)) v.told;
       ended = r.end;
       leads = leads_on line (Value_at v.frames v.own c.args.at) (After_value v.frames v.own t r.end) v.leads (scalar_step line v.frames v.own c.args.at r e.found);
       white = w.white;
       stops = w.stops;
       within = w.white.within;
       ahead = w.ahead;
-      more = λ f. (let two = e.more (v.roomy.closed f) in omega (arith, two, some, left, count));
+      more = λ f. (let two = e.more (v.roomy.closed f) in omega (arith, two, left, count));
     }
 
 pub next_token-requires-clause-ahead : goal.next_token-requires-clause-ahead
