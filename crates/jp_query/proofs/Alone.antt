@@ -1,6 +1,5 @@
 -- A logical expression that stands alone is read as it is spelled, and only so.
-use Rattle.std.proofs.Common.{◌≡◌, ◌∙◌, ◌+◌, ◌<◌, ◌≤◌, ◌==◌, ℕ, ℤ, List, [], ◌∷◌, ◌++◌, length, take, drop, Bool, true, false, cond, IsFalse, IsUtf8, Option, Some, None, Result, Ok, Err, IfOk, IfErr, refl, sym, ap, subst, arith}
-use Rattle.std.specs.Prelude.{count_by}
+use Rattle.std.proofs.Common.{◌≡◌, ◌∙◌, ◌<◌, ◌≤◌, ℕ, ℤ, List, [], ◌∷◌, ◌++◌, length, Bool, true, false, cond, IsFalse, IsUtf8, Option, Some, None, Result, Ok, Err, IfOk, IfErr, refl, sym, ap, subst, arith}
 use Rattle.std.specs.Str.{chars, is_utf8}
 use lib.Utf8.{encode}
 use Rattle.std.proofs.lemmas.Str.{IsUtf8-append, IsUtf8-drop, IsUtf8-take, IsUtf8-from_is_utf8, is_utf8-from_IsUtf8, IsCharBoundary-after_ascii, IsCharBoundary-at_seam, chars-append}
@@ -15,7 +14,7 @@ use Rattle.jp_model.specs.Query.Syntax.{Logical}
 use Rattle.jp_query.specs.ConditionOutcome.{MeantAlone}
 use Rattle.jp_query.specs.Conditions.{GivesCondition, IsFirstConditionFault}
 use Rattle.jp_query.specs.Integers.{clamp, logical_ints}
-use Rattle.jp_query.specs.Reading.Queries.{alone_at, logical_at, whole}
+use Rattle.jp_query.specs.Reading.Queries.{alone_at, logical_at}
 use Rattle.jp_query.specs.Reading.Scalars.{after_blanks, skip_blanks}
 use Rattle.jp_query.specs.Status.{read_alone}
 use Rattle.jp_syntax.specs.Filters.{SpellsCondition, filter_by, in_filter}

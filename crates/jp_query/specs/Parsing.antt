@@ -1,13 +1,14 @@
 -- What the parser's functions give, beside the reader.
-use Rattle.std.specs.Prelude.{◌≡◌, ℕ, List, Bool, true, false, cond, Option, Some, None, Result, Ok, Err}
+use Rattle.std.specs.Prelude.{◌≡◌, ℕ, List, [], ◌∷◌, ◌++◌, map, Bool, true, false, cond, Option, Some, None, Result, Ok, Err}
 use Rattle.jp_model.specs.Characters.{is_white, is_digit, is_lower}
 use Rattle.jp_model.specs.Query.Spelling.{is_name_first, is_name_scalar, is_function_scalar}
-use Rattle.jp_model.specs.Query.Syntax.{Selector, name_selector}
+use Rattle.jp_model.specs.Query.Syntax.{Origin, Selector, name_selector, Argument, constant_argument, Logical, test, single, path}
 use Rattle.jp_query.specs.Integers.{clamp}
-use Rattle.jp_query.specs.Reading.Scalars.{Read, Reader, ◌>>=◌, choose, after, begins}
+use Rattle.jp_query.specs.Reading.Scalars.{Read, Reader, Item, ◌>>=◌, is_item, choose, after, after_blanks, all_of, skip_blanks, begins, with_front}
 use Rattle.jp_query.specs.Reading.Numbers.{is_int_first, is_positive_digit}
 use Rattle.jp_query.specs.Reading.Strings.{string_at}
-use Rattle.jp_query.specs.Reading.Queries.{Expression, slice_behind, index_or_slice}
+use Rattle.jp_query.specs.Reading.Literals.{literal_at, operator_at}
+use Rattle.jp_query.specs.Reading.Queries.{Expression, slice_behind, index_or_slice, singular_at, selector_at, next_selector, call_behind, comparison_behind}
 use Rattle.jp_syntax.specs.View.{logical_view}
 use Rattle.jp_query.specs.declared.parser.failure.Failure.{Failure}
 use Rattle.jp_query.specs.declared.parser.failure.Failure.TheVariants as failures
@@ -36,6 +37,26 @@ ReadsItem view (Ok (Some x)) before left read = read ≡ Some (Some (view x, lef
 ReadsItem view (Ok None) before left read = (read ≡ Some None) × (left ≡ before)
 ReadsItem view (Err e) before left read = Fails e read
 
+-- what is read, after the items in front of it
+abbrev pub with_last : {A : Type 0} → List A → Read A → Read (List A)
+with_last front read = read >>= λ r. Some (front ++ r.0 ∷ [], r.1)
+
+-- what the reader gives was put after the old items, unless memory ran out
+abbrev pub Adds : {X Y : Type 0} → (X → Y) → Result Unit Failure → List X → List X → List ℕ → Read Y → Type 0
+Adds view (Ok done) old new left read = with_last (map view old) read ≡ Some (map view new, left)
+Adds view (Err e) old new left read = Fails e read
+
+-- the same of several items
+abbrev pub AddsAll : {X Y : Type 0} → (X → Y) → Result Unit Failure → List X → List X → List ℕ → Read (List Y) → Type 0
+AddsAll view (Ok done) old new left read = with_front (map view old) read ≡ Some (map view new, left)
+AddsAll view (Err e) old new left read = Fails e read
+
+-- the same of what may stand there or not; where it does not, the items are the old ones and all of the scalars are left
+abbrev pub AddsItem : {X Y : Type 0} → (X → Y) → Result Bool Failure → List X → List X → List ℕ → List ℕ → Option (Read Y) → Type 0
+AddsItem view (Ok true) old new before left item = (item >>= with_last (map view old)) ≡ Some (map view new, left)
+AddsItem view (Ok false) old new before left item = (item ≡ Some None) × ((left ≡ before) × (new ≡ old))
+AddsItem view (Err e) old new before left item = Fails e item
+
 -- scalars stand in front and are passed, or they do not and none is
 abbrev pub Takes : Bool → List ℕ → List ℕ → Option (List ℕ) → Type 0
 Takes true before left behind = behind ≡ Some left
@@ -58,7 +79,7 @@ is_member classes.FunctionScalar c = is_function_scalar c
 
 -- an expression, and whether it is a query or a call alone
 abbrev pub parsed_view : Parsed → Expression
-parsed_view e = (e.is_bare, logical_view e.logical)
+parsed_view e = (e.is_bare, logical_view e.logical.value)
 
 -- a selector that is neither a wildcard nor a filter
 abbrev pub simple_selector : Reader Selector
@@ -69,3 +90,29 @@ simple_selector x = choose (after 58 x)
     (do
       r ← string_at x
       Some (name_selector r.0, r.1)))
+
+-- selectors and the bracket after them
+abbrev pub selectors_at : Reader Expression → Reader (List Selector)
+selectors_at nested x = do
+  s ← selector_at clamp nested x
+  ss ← all_of (next_selector clamp nested) s.1
+  z ← after_blanks 93 ss.1
+  Some (s.0 ∷ ss.0, z)
+
+-- a literal as an argument, if no operator stands after it
+unfoldable pub literal_alone : Item Argument
+literal_alone x = do
+  l ← literal_at x
+  choose (operator_at (skip_blanks l.1)) (λ op. Some None) (Some (Some (constant_argument l.0, l.1)))
+
+-- a call alone, after its name and its parenthesis
+abbrev pub call_test : Reader Expression → List ℕ → Reader Logical
+call_test nested name x = do
+  c ← call_behind clamp nested name x
+  Some (test c.0, c.1)
+
+-- a comparison whose first side is a singular query, after its mark, if an operator stands after the query
+unfoldable pub single_comparison : Reader Expression → Origin → Item Expression
+single_comparison nested origin x = do
+  s ← singular_at clamp x
+  choose (operator_at (skip_blanks s.1)) (λ op. is_item (comparison_behind clamp nested (single (path origin s.0)) op.0 op.1)) (Some None)

@@ -1,4 +1,8 @@
 //! Reading a query (RFC 9535, section 2 and appendix A).
+//!
+//! Expressions nest up to 512 deep, and each level takes a frame of every function that leads to the next one, so the frames are
+//! kept small: an expression stands in a box, a list is filled in place, and what makes, moves or drops a large value is marked
+//! `#[inline(never)]`, as are the functions that lead to the next level, whose frames would else be joined.
 
 mod calls;
 mod class;

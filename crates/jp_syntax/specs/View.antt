@@ -68,7 +68,7 @@ literal_view (literals.Text x) = syntax.string_literal (chars (string_bytes x))
 abbrev pub argument_step : Argument-F syntax.Argument syntax.Comparable syntax.Logical syntax.Segment syntax.Selector syntax.Call syntax.Path → syntax.Argument
 argument_step (Argument-F.Argument::Constant c) = syntax.constant_argument (literal_view c)
 argument_step (Argument-F.Nodes p) = syntax.nodes_argument p
-argument_step (Argument-F.Condition l) = syntax.condition l
+argument_step (Argument-F.Condition l) = syntax.condition l.value
 argument_step (Argument-F.Argument::Result c) = syntax.result_argument c
 
 -- a side of a comparison
@@ -97,7 +97,7 @@ selector_step (Selector-F.Name x) = syntax.name_selector (chars (string_bytes x)
 selector_step Selector-F.Wildcard = syntax.wildcard_selector
 selector_step (Selector-F.Index i) = syntax.index_selector i
 selector_step (Selector-F.Slice first last step) = syntax.slice_selector first last step
-selector_step (Selector-F.Filter l) = syntax.filter_selector l
+selector_step (Selector-F.Filter l) = syntax.filter_selector l.value
 
 -- a call of a function
 abbrev pub call_step : Call-F syntax.Argument syntax.Comparable syntax.Logical syntax.Segment syntax.Selector syntax.Call syntax.Path → syntax.Call

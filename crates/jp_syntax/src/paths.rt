@@ -129,10 +129,13 @@ pub fn is_singular(segments: &[Segment]) -> bool
 fn singular_step(segment: &Segment) -> Result<Option<Step>, AllocError>
     ensures { IfOk result (λ found. option_map step_view found ≡ singular_step (segment_view segment.now)) }
 {
-    Ok(match only_selector(segment) {
-        Some(Selector::Name(name)) => Some(Step::Name(name.clone()?)),
-        Some(Selector::Index(index)) => Some(Step::Index(*index)),
-        _ => None,
+    let Some(selector) = only_selector(segment) else {
+        return Ok(None);
+    };
+    Ok(match selector {
+        Selector::Name(name) => Some(Step::Name(name.clone()?)),
+        Selector::Index(index) => Some(Step::Index(*index)),
+        Selector::Wildcard | Selector::Slice { .. } | Selector::Filter(_) => None,
     })
 }
 

@@ -27,7 +27,7 @@ pub enum Selector {
         step: Option<i64>,
     },
     /// The children for which the expression is true.
-    Filter(Logical),
+    Filter(Box<Logical>),
 }
 
 /// An expression that is true or false of a node (RFC 9535, section 2.3.5).
@@ -68,7 +68,7 @@ pub enum Comparable {
 pub enum Argument {
     Constant(Literal),
     Nodes(Path),
-    Condition(Logical),
+    Condition(Box<Logical>),
     Result(Call),
 }
 

@@ -2,20 +2,19 @@
 //!
 //! `depth` is how deep brackets and parentheses may still nest.
 
-ghost use Rattle.std.specs.Prelude.{map, [], ◌∷◌};
+ghost use Rattle.std.specs.Prelude.{map};
 ghost use Rattle.jp_query.specs.Integers.{clamp};
-ghost use Rattle.jp_query.specs.Parsing.{Reads, ReadsItem};
+ghost use Rattle.jp_query.specs.Parsing.{Adds, AddsAll, AddsItem, Reads, literal_alone};
 ghost use Rattle.jp_query.specs.Reading.Literals.{literal_at};
 ghost use Rattle.jp_query.specs.Reading.Queries.{argument_at, next_argument, arguments_at, call_behind, comparable_at, logical_at};
-ghost use Rattle.jp_query.specs.Reading.Scalars.{all_of, with_front};
+ghost use Rattle.jp_query.specs.Reading.Scalars.{all_of};
 ghost use Rattle.jp_syntax.specs.View.{comparable_view, argument_view, call_view, literal_view};
 
 use super::Parser;
-use super::expression::{argument_of, call_of, side_of, single_of};
-use super::failure::Failure;
+use super::expression::{call_of, push_expression, side_of, single_of};
+use super::failure::{Failure, discard};
 use super::literals::{begins_without_literal, literal, operator};
 use super::scalars::{skip_blanks, to_text};
-use super::selectors::one;
 use crate::expected::Expected;
 use jp_syntax::{Argument, Call, Comparable, Literal};
 use jp_types::{Limit, literal_passes};
@@ -34,68 +33,97 @@ impl<'t> Parser<'t> {
         Ok(literal)
     }
 
-    /// An argument of a function (RFC 9535, section 2.4): a literal with no operator after it, or an expression.
-    #[cycle(query)]
-    #[tactic(auto, unfolding(crate::specs::Reading::Queries::argument_at, crate::specs::Reading::Queries::condition_at))]
-    fn argument(&mut self, depth: u32) -> Result<Argument, Failure>
-        ensures { Reads (λ a. argument_view a) result self.new.rest.now (argument_at clamp (logical_at clamp depth) self.old.rest.now) }
+    /// Adds a literal, if no operator stands after it, and answers whether it did. If it did not, nothing is read.
+    #[tactic(auto, unfolding(crate::specs::Parsing::literal_alone))]
+    #[inline(never)]
+    fn push_literal(&mut self, all: &mut Vec<Argument>) -> Result<bool, Failure>
+        ensures { AddsItem (λ a. argument_view a) result all.old.items all.new.items self.old.rest.now self.new.rest.now (literal_alone self.old.rest.now) }
     {
         let before = self.rest;
-        if !begins_without_literal(before) {
-            let value = self.literal()?;
-            if operator(skip_blanks(self.rest)).is_none() {
-                return Ok(Argument::Constant(value));
-            }
+        let value = self.literal()?;
+        if operator(skip_blanks(self.rest)).is_some() {
             self.rest = before;
+            return Ok(false);
         }
-        Ok(argument_of(self.logical(depth)?))
+        all.push(Argument::Constant(value))?;
+        Ok(true)
     }
 
-    /// Blanks, a comma, blanks and an argument, if there is a comma.
+    /// Adds an argument of a function (RFC 9535, section 2.4): a literal with no operator after it, or an expression.
+    #[cycle(query)]
+    #[tactic(auto, unfolding(crate::specs::Reading::Queries::argument_at, crate::specs::Reading::Queries::condition_at, crate::specs::Parsing::literal_alone))]
+    #[inline(never)]
+    fn push_argument(&mut self, all: &mut Vec<Argument>, depth: u32) -> Result<(), Failure>
+        ensures { Adds (λ a. argument_view a) result all.old.items all.new.items self.new.rest.now (argument_at clamp (logical_at clamp depth) self.old.rest.now) }
+    {
+        if !begins_without_literal(self.rest) && self.push_literal(all)? {
+            return Ok(());
+        }
+        let expression = self.logical(depth)?;
+        Ok(push_expression(self.alloc, all, expression)?)
+    }
+
+    /// Passes blanks, a comma and blanks and adds an argument, if there is a comma, and answers whether there was one.
     #[cycle(query)]
     #[tactic(auto, unfolding(crate::specs::Reading::Queries::next_argument))]
-    fn next_argument(&mut self, depth: u32) -> Result<Option<Argument>, Failure>
-        ensures { ReadsItem (λ a. argument_view a) result self.old.rest.now self.new.rest.now (next_argument clamp (logical_at clamp depth) self.old.rest.now) }
+    fn push_next_argument(&mut self, all: &mut Vec<Argument>, depth: u32) -> Result<bool, Failure>
+        ensures { AddsItem (λ a. argument_view a) result all.old.items all.new.items self.old.rest.now self.new.rest.now (next_argument clamp (logical_at clamp depth) self.old.rest.now) }
     {
         if !self.takes_next(',') {
-            return Ok(None);
+            return Ok(false);
         }
         self.skip_blanks();
-        Ok(Some(self.argument(depth)?))
+        self.push_argument(all, depth)?;
+        Ok(true)
     }
 
-    /// The arguments after the first one.
+    /// Adds the arguments after the first one.
     #[cycle(query)]
-    fn more_arguments(&mut self, first: Argument, depth: u32) -> Result<Vec<Argument>, Failure>
-        ensures { Reads (λ v. map argument_view v.items) result self.new.rest.now (with_front (map argument_view (first ∷ [])) (all_of (next_argument clamp (logical_at clamp depth)) self.old.rest.now)) }
+    fn push_more_arguments(&mut self, all: &mut Vec<Argument>, depth: u32) -> Result<(), Failure>
+        ensures { AddsAll (λ a. argument_view a) result all.old.items all.new.items self.new.rest.now (all_of (next_argument clamp (logical_at clamp depth)) self.old.rest.now) }
     {
-        let mut all = one(self.alloc, first)?;
         for _ in 0..self.rest.len() {
-            let Some(one) = self.next_argument(depth)? else {
+            if !self.push_next_argument(all, depth)? {
                 break;
-            };
-            all.push(one)?;
+            }
         }
-        Ok(all)
+        Ok(())
+    }
+
+    /// Adds arguments, and passes the parenthesis after them (RFC 9535, section 2.4).
+    #[cycle(query)]
+    #[tactic(auto, unfolding(crate::specs::Reading::Queries::arguments_at))]
+    fn push_arguments(&mut self, all: &mut Vec<Argument>, depth: u32) -> Result<(), Failure>
+        ensures { AddsAll (λ a. argument_view a) result all.old.items all.new.items self.new.rest.now (arguments_at clamp (logical_at clamp depth) self.old.rest.now) }
+    {
+        self.push_argument(all, depth)?;
+        self.push_more_arguments(all, depth)?;
+        if !self.takes_next(')') {
+            return Err(Failure::Syntax(self.next_stop(Expected::Argument)));
+        }
+        Ok(())
     }
 
     /// Arguments and a parenthesis after them (RFC 9535, section 2.4).
     #[cycle(query)]
-    #[tactic(auto, unfolding(crate::specs::Reading::Queries::arguments_at))]
+    #[inline(never)]
     fn arguments(&mut self, depth: u32) -> Result<Vec<Argument>, Failure>
         ensures { Reads (λ v. map argument_view v.items) result self.new.rest.now (arguments_at clamp (logical_at clamp depth) self.old.rest.now) }
     {
-        let first = self.argument(depth)?;
-        let arguments = self.more_arguments(first, depth)?;
-        if !self.takes_next(')') {
-            return Err(Failure::Syntax(self.next_stop(Expected::Argument)));
+        let mut arguments = Vec::with_capacity(self.alloc, 1)?;
+        match self.push_arguments(&mut arguments, depth) {
+            Ok(()) => Ok(arguments),
+            Err(failure) => {
+                discard(arguments);
+                Err(failure)
+            }
         }
-        Ok(arguments)
     }
 
     /// A call of a function, after its name and its parenthesis (RFC 9535, section 2.4).
     #[cycle(query)]
     #[tactic(auto, unfolding(crate::specs::Reading::Queries::call_behind))]
+    #[inline(never)]
     pub(super) fn call(&mut self, name: &[char], depth: u32) -> Result<Call, Failure>
         ensures { Reads (λ c. call_view c) result self.new.rest.now (call_behind clamp (logical_at clamp depth) name.now self.old.rest.now) }
     {

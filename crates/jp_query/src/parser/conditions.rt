@@ -45,7 +45,7 @@ impl Parser<'_> {
         ensures { Gives (λ l. logical_view l) result (alone_at clamp 512 self.old.rest.now) }
     {
         self.skip_blanks();
-        let expression = self.logical(MAX_DEPTH)?.logical;
+        let expression = Box::into_inner(self.logical(MAX_DEPTH)?.logical);
         if !self.takes_next(']') || !self.rest.is_empty() {
             return Err(Failure::Syntax(self.next_stop(Expected::End)));
         }

@@ -39,6 +39,10 @@ pub(crate) enum Failure {
     Memory,
 }
 
+/// Drops what was read before a failure.
+#[inline(never)]
+pub(crate) fn discard<T: Drop>(_read: T) {}
+
 impl From<AllocError> for Failure {
     ghost from_gives = { λ _ e. e ≡ Memory };
 

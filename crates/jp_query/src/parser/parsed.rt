@@ -6,5 +6,5 @@ use jp_syntax::Logical;
 #[derive(Drop)]
 pub(crate) struct Parsed {
     pub(crate) is_bare: bool,
-    pub(crate) logical: Logical,
+    pub(crate) logical: Box<Logical>,
 }

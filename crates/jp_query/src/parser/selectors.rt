@@ -1,12 +1,13 @@
 //! Selectors and singular segments, which contain no expression (RFC 9535, sections 2.3 and 2.3.5.1).
 
-ghost use Rattle.std.specs.Prelude.{◌≡◌, [], ◌∷◌, IfOk, Some, map};
+ghost use Rattle.std.specs.Prelude.{◌≡◌, [], ◌∷◌, ◌++◌, IfOk, OnOk, Some, map};
+ghost use Rattle.jp_model.specs.Query.Syntax.{filter_selector, wildcard_selector};
 ghost use Rattle.jp_query.specs.Integers.{clamp};
-ghost use Rattle.jp_query.specs.Parsing.{Reads, ReadsItem, simple_selector};
+ghost use Rattle.jp_query.specs.Parsing.{Adds, Reads, ReadsItem, simple_selector};
 ghost use Rattle.jp_query.specs.Reading.Numbers.{int_at};
 ghost use Rattle.jp_query.specs.Reading.Queries.{bound_at, step_at, slice_behind, index_or_slice, singular_behind, singular_segment, next_singular, singular_at, dotted};
 ghost use Rattle.jp_query.specs.Reading.Scalars.{all_of};
-ghost use Rattle.jp_syntax.specs.View.{selector_view, segment_view, segments_view};
+ghost use Rattle.jp_syntax.specs.View.{logical_view, selector_view, segment_view, segments_view};
 
 use super::Parser;
 use super::failure::Failure;
@@ -14,7 +15,7 @@ use super::numbers::{begins_number, int};
 use super::scalars::{shorthand, skip_blanks};
 use super::strings::string;
 use crate::expected::Expected;
-use jp_syntax::{Segment, Selector};
+use jp_syntax::{Logical, Segment, Selector};
 use jp_types::{Limit, integer_passes};
 use std::alloc::{AllocError, Global};
 
@@ -25,6 +26,24 @@ pub(crate) fn one<T: Drop>(alloc: Global, item: T) -> Result<Vec<T>, AllocError>
     let mut items = Vec::with_capacity(alloc, 1)?;
     items.push(item)?;
     Ok(items)
+}
+
+/// Adds a wildcard.
+#[inline(never)]
+pub(crate) fn push_wildcard(all: &mut Vec<Selector>) -> Result<(), AllocError>
+    ensures { OnOk result (map selector_view all.new.items ≡ map selector_view all.old.items ++ wildcard_selector ∷ []) }
+{
+    all.push(Selector::Wildcard)?;
+    Ok(())
+}
+
+/// Adds a filter.
+#[inline(never)]
+pub(crate) fn push_filter(all: &mut Vec<Selector>, filter: Box<Logical>) -> Result<(), AllocError>
+    ensures { OnOk result (map selector_view all.new.items ≡ map selector_view all.old.items ++ filter_selector (logical_view filter.value) ∷ []) }
+{
+    all.push(Selector::Filter(filter))?;
+    Ok(())
 }
 
 impl<'t> Parser<'t> {
@@ -87,7 +106,7 @@ impl<'t> Parser<'t> {
     }
 
     /// A selector that is neither a wildcard nor a filter (RFC 9535, section 2.3).
-    pub(super) fn simple_selector(&mut self) -> Result<Selector, Failure>
+    fn simple_selector(&mut self) -> Result<Selector, Failure>
         ensures { Reads (λ s. selector_view s) result self.new.rest.now (simple_selector self.old.rest.now) }
     {
         if self.takes(':') {
@@ -101,8 +120,18 @@ impl<'t> Parser<'t> {
         Ok(Selector::Name(name))
     }
 
+    /// Adds a selector that is neither a wildcard nor a filter (RFC 9535, section 2.3).
+    #[inline(never)]
+    pub(super) fn push_simple_selector(&mut self, all: &mut Vec<Selector>) -> Result<(), Failure>
+        ensures { Adds (λ s. selector_view s) result all.old.items all.new.items self.new.rest.now (simple_selector self.old.rest.now) }
+    {
+        all.push(self.simple_selector()?)?;
+        Ok(())
+    }
+
     /// A wildcard, or a name without quotes, after a point or two (RFC 9535, section 2.5).
     #[tactic(auto, unfolding(crate::specs::Reading::Queries::dotted))]
+    #[inline(never)]
     pub(super) fn dotted(&mut self) -> Result<Vec<Selector>, Failure>
         ensures { Reads (λ v. map selector_view v.items) result self.new.rest.now (dotted self.old.rest.now) }
     {

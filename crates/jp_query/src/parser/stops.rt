@@ -68,6 +68,7 @@ impl<'t> Parser<'t> {
 
     /// After a condition and blanks, where what closes it does not stand, and where an operator does, after a query that is not
     /// singular.
+    #[inline(never)]
     pub(super) fn stop_behind_condition(
         &mut self,
         condition: &Logical,
@@ -92,6 +93,7 @@ impl<'t> Parser<'t> {
     }
 
     /// After the selectors of a segment and blanks, where no bracket stands.
+    #[inline(never)]
     pub(super) fn stop_behind_selectors(&mut self, selectors: &[Selector]) -> Stop {
         if let Some(Selector::Filter(condition)) = selectors.last() {
             return self.stop_behind_condition(
