@@ -47,7 +47,7 @@ child_seen x = ap segment_view (sym (segments.rolls-Child x)) ∙ fold-roll-Segm
 pub descendant_seen : (x : Vec Selector Global) → segment_view (segments.Descendant x) ≡ syntax.descendant_segment (selectors_view x.items)
 descendant_seen x = ap segment_view (sym (segments.rolls-Descendant x)) ∙ fold-roll-Segment syntax.Argument syntax.Comparable syntax.Logical syntax.Segment syntax.Selector syntax.Call syntax.Path argument_step comparable_step logical_step segment_step selector_step call_step path_step (Segment-F.Descendant x)
 
-pub filter_seen : (x : Logical) → selector_view (selectors.Filter x) ≡ syntax.filter_selector (logical_view x)
+pub filter_seen : (x : Box Logical Global) → selector_view (selectors.Filter x) ≡ syntax.filter_selector (logical_view x.value)
 filter_seen x = ap selector_view (sym (selectors.rolls-Filter x)) ∙ fold-roll-Selector syntax.Argument syntax.Comparable syntax.Logical syntax.Segment syntax.Selector syntax.Call syntax.Path argument_step comparable_step logical_step segment_step selector_step call_step path_step (Selector-F.Filter x)
 
 pub or_seen : (x : Vec Logical Global) → logical_view (logicals.Or x) ≡ syntax.or_all (logicals_view x.items)
@@ -86,7 +86,7 @@ slice_is table first last step = ap (choice_view table) (sym (choices.rolls-Slic
 pub filter_is : (table : Table) (x : Condition) → choice_view table (choices.Filter x) ≡ syntax.filter_selector (condition_view table x)
 filter_is table x = ap (choice_view table) (sym (choices.rolls-Filter x)) ∙ fold-roll-Choice syntax.Selector syntax.Logical syntax.Comparable syntax.Comparable syntax.Comparable syntax.Argument Onward syntax.Logical choice_step (condition_step table) found_step operand_step (sought_step table) spelled_step (step_step table) test_step (Choice-F.Filter x)
 
-pub tests_is : (table : Table) (x : Test) → condition_view table (conditions.Test x) ≡ test_view table x
+pub tests_is : (table : Table) (x : Box Test Global) → condition_view table (conditions.Test x) ≡ test_view table x.value
 tests_is table x = ap (condition_view table) (sym (conditions.rolls-Test x)) ∙ fold-roll-Condition syntax.Selector syntax.Logical syntax.Comparable syntax.Comparable syntax.Comparable syntax.Argument Onward syntax.Logical choice_step (condition_step table) found_step operand_step (sought_step table) spelled_step (step_step table) test_step (Condition-F.Test x)
 
 pub once_is : (table : Table) (position : ℕ) → condition_view table (conditions.Once position) ≡ logical_from_root (logical_at table position)
@@ -116,13 +116,13 @@ compare_is table a op b = ap (test_view table) (sym (tests.rolls-Compare a op b)
 pub passes_is : (table : Table) (whole : Bool) (text : Operand) (pattern : Spelled) → test_view table (tests.Passes whole text pattern) ≡ syntax.test (syntax.call (passing_name whole) (syntax.argument (argument_of (operand_view table text)) (syntax.argument (spelled_view table pattern) syntax.no_arguments)))
 passes_is table whole text pattern = ap (test_view table) (sym (tests.rolls-Passes whole text pattern)) ∙ fold-roll-Test syntax.Selector syntax.Logical syntax.Comparable syntax.Comparable syntax.Comparable syntax.Argument Onward syntax.Logical choice_step (condition_step table) found_step operand_step (sought_step table) spelled_step (step_step table) test_step (Test-F.Passes whole text pattern)
 
-pub operand_is : (table : Table) (x : Sought) → operand_view table (operands.Sought x) ≡ sought_view table x
+pub operand_is : (table : Table) (x : Box Sought Global) → operand_view table (operands.Sought x) ≡ sought_view table x.value
 operand_is table x = ap (operand_view table) (sym (operands.rolls-Sought x)) ∙ fold-roll-Operand syntax.Selector syntax.Logical syntax.Comparable syntax.Comparable syntax.Comparable syntax.Argument Onward syntax.Logical choice_step (condition_step table) found_step operand_step (sought_step table) spelled_step (step_step table) test_step (Operand-F.Operand::Sought x)
 
-pub literal_is : (table : Table) (x : LiteralPattern) → spelled_view table (spellings.Literal x) ≡ syntax.constant_argument (literal_view x.constant.literal)
+pub literal_is : (table : Table) (x : Box LiteralPattern Global) → spelled_view table (spellings.Literal x) ≡ syntax.constant_argument (literal_view x.value.constant.literal)
 literal_is table x = ap (spelled_view table) (sym (spellings.rolls-Literal x)) ∙ fold-roll-Spelled syntax.Selector syntax.Logical syntax.Comparable syntax.Comparable syntax.Comparable syntax.Argument Onward syntax.Logical choice_step (condition_step table) found_step operand_step (sought_step table) spelled_step (step_step table) test_step (Spelled-F.Literal x)
 
-pub spelled_is : (table : Table) (x : Sought) → spelled_view table (spellings.Sought x) ≡ argument_of (sought_view table x)
+pub spelled_is : (table : Table) (x : Box Sought Global) → spelled_view table (spellings.Sought x) ≡ argument_of (sought_view table x.value)
 spelled_is table x = ap (spelled_view table) (sym (spellings.rolls-Sought x)) ∙ fold-roll-Spelled syntax.Selector syntax.Logical syntax.Comparable syntax.Comparable syntax.Comparable syntax.Argument Onward syntax.Logical choice_step (condition_step table) found_step operand_step (sought_step table) spelled_step (step_step table) test_step (Spelled-F.Spelled::Sought x)
 
 pub found_is : (table : Table) (x : Found) → sought_view table (things.Found x) ≡ found_view table x

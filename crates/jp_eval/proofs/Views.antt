@@ -1,5 +1,5 @@
 -- What values of the program stand for, one level deep.
-use Rattle.std.proofs.Common.{◌≡◌, ◌∙◌, sym, ap}
+use Rattle.std.proofs.Common.{◌≡◌, ◌∙◌, sym, ap, Box, Global}
 use Rattle.std.specs.Prelude.{string_bytes}
 use Rattle.std.specs.Str.{chars}
 use Rattle.jp_model.specs.Query.Syntax as syntax
@@ -27,7 +27,7 @@ constant_viewed l = ap argument_view (sym (arguments.rolls-Constant l)) ∙ fold
 pub nodes_viewed : (p : Path) → argument_view (arguments.Nodes p) ≡ syntax.nodes_argument (path_view p)
 nodes_viewed p = ap argument_view (sym (arguments.rolls-Nodes p)) ∙ fold-roll-Argument syntax.Argument syntax.Comparable syntax.Logical syntax.Segment syntax.Selector syntax.Call syntax.Path argument_step comparable_step logical_step segment_step selector_step call_step path_step (Argument-F.Nodes p)
 
-pub condition_viewed : (l : Logical) → argument_view (arguments.Condition l) ≡ syntax.condition (logical_view l)
+pub condition_viewed : (l : Box Logical Global) → argument_view (arguments.Condition l) ≡ syntax.condition (logical_view l.value)
 condition_viewed l = ap argument_view (sym (arguments.rolls-Condition l)) ∙ fold-roll-Argument syntax.Argument syntax.Comparable syntax.Logical syntax.Segment syntax.Selector syntax.Call syntax.Path argument_step comparable_step logical_step segment_step selector_step call_step path_step (Argument-F.Condition l)
 
 pub result_viewed : (c : Call) → argument_view (arguments.Result c) ≡ syntax.result_argument (call_view c)

@@ -99,7 +99,7 @@ choice_step (Choice-F.Filter l) = syntax.filter_selector l
 
 -- a logical expression; what is asked of the root says `$` where it said `@`
 abbrev pub condition_step : Table → Condition-F syntax.Selector syntax.Logical syntax.Comparable syntax.Comparable syntax.Comparable syntax.Argument Onward syntax.Logical → syntax.Logical
-condition_step table (Condition-F.Test l) = l
+condition_step table (Condition-F.Test l) = l.value
 condition_step table (Condition-F.Condition::Once position) = logical_from_root (logical_at table position)
 
 -- the same of what is asked of a node
@@ -114,13 +114,13 @@ test_step (Test-F.Passes whole text pattern) = syntax.test (syntax.call (passing
 
 -- a side of a comparison
 abbrev pub operand_step : Operand-F syntax.Selector syntax.Logical syntax.Comparable syntax.Comparable syntax.Comparable syntax.Argument Onward syntax.Logical → syntax.Comparable
-operand_step (Operand-F.Constant c) = syntax.constant (literal_view c.literal)
-operand_step (Operand-F.Operand::Sought a) = a
+operand_step (Operand-F.Constant c) = syntax.constant (literal_view c.value.literal)
+operand_step (Operand-F.Operand::Sought a) = a.value
 
 -- an argument that gives a pattern
 abbrev pub spelled_step : Spelled-F syntax.Selector syntax.Logical syntax.Comparable syntax.Comparable syntax.Comparable syntax.Argument Onward syntax.Logical → syntax.Argument
-spelled_step (Spelled-F.Literal p) = syntax.constant_argument (literal_view p.constant.literal)
-spelled_step (Spelled-F.Spelled::Sought a) = argument_of a
+spelled_step (Spelled-F.Literal p) = syntax.constant_argument (literal_view p.value.constant.literal)
+spelled_step (Spelled-F.Spelled::Sought a) = argument_of a.value
 
 -- a query or a call whose answer is a value; what is asked of the root says `$` where it said `@`
 abbrev pub sought_step : Table → Sought-F syntax.Selector syntax.Logical syntax.Comparable syntax.Comparable syntax.Comparable syntax.Argument Onward syntax.Logical → syntax.Comparable
@@ -196,7 +196,7 @@ conditions_view table ls = logicals_of (map (condition_view table) ls)
 
 -- what a slot asks, where what those before it ask is seen already
 abbrev pub slot_view : Table → Slot → Meant
-slot_view table (slots.Test test) = expression (test_view table test)
+slot_view table (slots.Test test) = expression (test_view table test.value)
 slot_view table (slots.Value found) = side (found_view table found)
 slot_view table (slots.Steps steps) = tail (steps_view table steps.items)
 

@@ -17,11 +17,11 @@ passing_name false = codes "search"
 -- the expression that asks so of a query
 abbrev pub question_view : Question → syntax.Path → syntax.Logical
 question_view questions.Exists p = syntax.exists p
-question_view (questions.Compares op constant) p = syntax.compare (syntax.single p) (op_view op) (syntax.constant (literal_view constant.literal))
-question_view (questions.Passes whole pattern) p = syntax.test (syntax.call (passing_name whole) (syntax.argument (syntax.nodes_argument p) (syntax.argument (syntax.constant_argument (literal_view pattern.constant.literal)) syntax.no_arguments)))
+question_view (questions.Compares op constant) p = syntax.compare (syntax.single p) (op_view op) (syntax.constant (literal_view constant.value.literal))
+question_view (questions.Passes whole pattern) p = syntax.test (syntax.call (passing_name whole) (syntax.argument (syntax.nodes_argument p) (syntax.argument (syntax.constant_argument (literal_view pattern.value.constant.literal)) syntax.no_arguments)))
 
 -- the answer of the nodes that the query selects
 abbrev pub answered : Question → List Node → Bool
 answered questions.Exists found = not (length found == 0)
-answered (questions.Compares op constant) found = compared (op_view op) (single_value found) (Some (literal_value (literal_view constant.literal)))
-answered (questions.Passes whole pattern) found = in_pattern (passing whole) (single_value found) (Some (literal_value (literal_view pattern.constant.literal)))
+answered (questions.Compares op constant) found = compared (op_view op) (single_value found) (Some (literal_value (literal_view constant.value.literal)))
+answered (questions.Passes whole pattern) found = in_pattern (passing whole) (single_value found) (Some (literal_value (literal_view pattern.value.constant.literal)))

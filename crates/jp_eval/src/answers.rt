@@ -159,7 +159,7 @@ impl<'r, 'a> Walk<'r, 'a> {
         };
         inner.prepare(frame)?;
         let (run, most) = (&inner, self.most);
-        let truth = Walk { run, most }.passes_any(*inner.root, test, frame)?;
+        let truth = Walk { run, most }.passes_any(inner.root, test, frame)?;
         self.run.keep_at(position, Answer::Holds(truth), frame);
         Ok(truth)
     }
@@ -177,7 +177,7 @@ impl<'r, 'a> Walk<'r, 'a> {
         };
         inner.prepare(frame)?;
         let (run, most) = (&inner, self.most);
-        Walk { run, most }.found_value(*inner.root, found, frame)
+        Walk { run, most }.found_value(inner.root, found, frame)
     }
 
     /// The value that a slot finds at the root, which is looked for once.

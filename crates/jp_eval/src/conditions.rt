@@ -26,10 +26,10 @@ use jp_values::compare_in;
 impl<'r, 'a> Walk<'r, 'a> {
     /// What a question asks of the node that names and indexes lead to.
     #[inline(always)]
-    fn answer(self, node: Cursor<'a>, keys: &[Key], question: &Question) -> Result<bool>
-        ensures { IfOk result (λ b. b ≡ truth_of (question_view question.now (path current (keys_view keys.now))) (node_of node.entry) (tree_at self.entry)) }
+    fn answer(self, node: &Cursor<'a>, keys: &[Key], question: &Question) -> Result<bool>
+        ensures { IfOk result (λ b. b ≡ truth_of (question_view question.now (path current (keys_view keys.now))) (node_of node.now) (tree_at self.entry)) }
     {
-        question.answer(self.run.alloc, follow_keys(keys, node))
+        question.answer(self.run.alloc, follow_keys(keys, *node))
     }
 
     /// Whether the condition holds of a node.
@@ -37,13 +37,13 @@ impl<'r, 'a> Walk<'r, 'a> {
     #[inline(always)]
     pub(crate) fn holds(
         self,
-        node: Cursor<'a>,
+        node: &Cursor<'a>,
         condition: &Condition,
         frame: &mut Frame<'a>,
     ) -> Result<bool>
-        requires { IsFrameFor self node frame.old }
+        requires { IsFrameFor self node.now frame.old }
         ensures lends { Lends self.entry frame.old frame.new result }
-        ensures value { IfOk result (λ b. b ≡ truth_of (condition_view (table_at self.entry) condition.now) (node_of node.entry) (tree_at self.entry)) }
+        ensures value { IfOk result (λ b. b ≡ truth_of (condition_view (table_at self.entry) condition.now) (node_of node.now) (tree_at self.entry)) }
     {
         match condition {
             Condition::Test(test) => self.passes(node, test, frame),
@@ -54,10 +54,15 @@ impl<'r, 'a> Walk<'r, 'a> {
     /// Whether the node passes the test. Most tests ask what names and indexes lead to, which costs no call.
     #[cycle(eval)]
     #[inline(always)]
-    pub(crate) fn passes(self, node: Cursor<'a>, test: &Test, frame: &mut Frame<'a>) -> Result<bool>
-        requires { IsFrameFor self node frame.old }
+    pub(crate) fn passes(
+        self,
+        node: &Cursor<'a>,
+        test: &Test,
+        frame: &mut Frame<'a>,
+    ) -> Result<bool>
+        requires { IsFrameFor self node.now frame.old }
         ensures lends { Lends self.entry frame.old frame.new result }
-        ensures value { IfOk result (λ b. b ≡ truth_of (test_view (table_at self.entry) test.now) (node_of node.entry) (tree_at self.entry)) }
+        ensures value { IfOk result (λ b. b ≡ truth_of (test_view (table_at self.entry) test.now) (node_of node.now) (tree_at self.entry)) }
     {
         match test {
             Test::Single(keys, question) => self.answer(node, keys, question),
@@ -70,13 +75,13 @@ impl<'r, 'a> Walk<'r, 'a> {
     #[inline(never)]
     pub(crate) fn passes_any(
         self,
-        node: Cursor<'a>,
+        node: &Cursor<'a>,
         test: &Test,
         frame: &mut Frame<'a>,
     ) -> Result<bool>
-        requires { IsFrameFor self node frame.old }
+        requires { IsFrameFor self node.now frame.old }
         ensures lends { Lends self.entry frame.old frame.new result }
-        ensures value { IfOk result (λ b. b ≡ truth_of (test_view (table_at self.entry) test.now) (node_of node.entry) (tree_at self.entry)) }
+        ensures value { IfOk result (λ b. b ≡ truth_of (test_view (table_at self.entry) test.now) (node_of node.now) (tree_at self.entry)) }
     {
         match test {
             Test::Single(keys, question) => self.answer(node, keys, question),
@@ -99,14 +104,14 @@ impl<'r, 'a> Walk<'r, 'a> {
     #[cycle(eval)]
     fn are_all(
         self,
-        node: Cursor<'a>,
+        node: &Cursor<'a>,
         parts: &[Condition],
         answer: bool,
         frame: &mut Frame<'a>,
     ) -> Result<bool>
-        requires { IsFrameFor self node frame.old }
+        requires { IsFrameFor self node.now frame.old }
         ensures lends { Lends self.entry frame.old frame.new result }
-        ensures value { IfOk result (λ b. b ≡ all_are answer (conditions_view (table_at self.entry) parts.now) (node_of node.entry) (tree_at self.entry)) }
+        ensures value { IfOk result (λ b. b ≡ all_are answer (conditions_view (table_at self.entry) parts.now) (node_of node.now) (tree_at self.entry)) }
     {
         for part in parts {
             if self.holds(node, part, frame)? != answer {
@@ -119,10 +124,10 @@ impl<'r, 'a> Walk<'r, 'a> {
     /// Whether the steps select a node. The first decides.
     #[cycle(eval)]
     #[inline(never)]
-    fn has_node(self, node: Cursor<'a>, steps: &[Step], frame: &mut Frame<'a>) -> Result<bool>
-        requires { IsFrameFor self node frame.old }
+    fn has_node(self, node: &Cursor<'a>, steps: &[Step], frame: &mut Frame<'a>) -> Result<bool>
+        requires { IsFrameFor self node.now frame.old }
         ensures lends { Lends self.entry frame.old frame.new result }
-        ensures value { IfOk result (λ b. b ≡ not (length (reached self.entry.run.now steps.now (node_of node.entry ∷ [])) == 0)) }
+        ensures value { IfOk result (λ b. b ≡ not (length (reached self.entry.run.now steps.now (node_of node.now ∷ [])) == 0)) }
     {
         Ok(self.sum(node, steps, 1, frame)?.count > 0)
     }
@@ -132,15 +137,15 @@ impl<'r, 'a> Walk<'r, 'a> {
     #[inline(never)]
     fn compare_values(
         self,
-        node: Cursor<'a>,
+        node: &Cursor<'a>,
         left: &Operand,
         op: CompareOp,
         right: &Operand,
         frame: &mut Frame<'a>,
     ) -> Result<bool>
-        requires { IsFrameFor self node frame.old }
+        requires { IsFrameFor self node.now frame.old }
         ensures lends { Lends self.entry frame.old frame.new result }
-        ensures value { IfOk result (λ b. b ≡ compared (op_view op) (compared_value (operand_view (table_at self.entry) left.now) (node_of node.entry) (tree_at self.entry)) (compared_value (operand_view (table_at self.entry) right.now) (node_of node.entry) (tree_at self.entry))) }
+        ensures value { IfOk result (λ b. b ≡ compared (op_view op) (compared_value (operand_view (table_at self.entry) left.now) (node_of node.now) (tree_at self.entry)) (compared_value (operand_view (table_at self.entry) right.now) (node_of node.now) (tree_at self.entry))) }
     {
         let left = self.value_of(node, left, frame)?;
         let right = self.value_of(node, right, frame)?;
@@ -152,20 +157,20 @@ impl<'r, 'a> Walk<'r, 'a> {
     #[inline(never)]
     fn passes_pattern(
         self,
-        node: Cursor<'a>,
+        node: &Cursor<'a>,
         whole: bool,
         text: &Operand,
         pattern: &Spelled,
         frame: &mut Frame<'a>,
     ) -> Result<bool>
-        requires { IsFrameFor self node frame.old }
+        requires { IsFrameFor self node.now frame.old }
         ensures lends { Lends self.entry frame.old frame.new result }
-        ensures value { IfOk result (λ b. b ≡ in_pattern (passing whole) (compared_value (operand_view (table_at self.entry) text.now) (node_of node.entry) (tree_at self.entry)) (given_by (spelled_view (table_at self.entry) pattern.now) (node_of node.entry) (tree_at self.entry)).value) }
+        ensures value { IfOk result (λ b. b ≡ in_pattern (passing whole) (compared_value (operand_view (table_at self.entry) text.now) (node_of node.now) (tree_at self.entry)) (given_by (spelled_view (table_at self.entry) pattern.now) (node_of node.now) (tree_at self.entry)).value) }
     {
         let text = self.value_of(node, text, frame)?;
         match pattern {
             Spelled::Literal(pattern) => { read_passes(self.run.alloc, &pattern.read, whole, text) }
-            Spelled::Sought(sought) => match sought {
+            Spelled::Sought(sought) => match &**sought {
                 Sought::Once(position) => self.passes_once(*position, whole, text, frame),
                 Sought::Found(found) => {
                     let value = self.found_value(node, found, frame)?;

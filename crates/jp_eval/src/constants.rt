@@ -13,7 +13,7 @@ use crate::leaves::{Constant, LiteralPattern, MemberName};
 use crate::question::Key;
 use jp_decimal::{Decimal, Numeral};
 use jp_strings::is_plain;
-use jp_syntax::{Literal, Segment, Selector};
+use jp_syntax::{Literal, Segment, Selector, is_singular};
 use jp_values::Value;
 use std::alloc::Global;
 
@@ -75,6 +75,7 @@ pub(crate) fn compile_member_name(alloc: Global, name: &str) -> Result<MemberNam
 }
 
 /// The key of a segment that is singular, and None of any other (RFC 9535, section 2.3.5.1).
+#[inline(never)]
 pub(crate) fn compile_key(alloc: Global, segment: &Segment) -> Result<Option<Key>>
     ensures { IfOk result (λ found. IfSome found (λ key. segment_view segment.now ≡ key_segment key)) }
 {
@@ -95,7 +96,10 @@ pub(crate) fn compile_key(alloc: Global, segment: &Segment) -> Result<Option<Key
 pub(crate) fn compile_keys(alloc: Global, segments: &[Segment]) -> Result<Option<Vec<Key>>>
     ensures { IfOk result (λ found. IfSome found (λ keys. keys_view keys.items ≡ segments_view segments.now)) }
 {
-    let mut keys = Vec::new(alloc);
+    if !is_singular(segments) {
+        return Ok(None);
+    }
+    let mut keys = Vec::with_capacity(alloc, segments.len())?;
     for segment in segments {
         match compile_key(alloc, segment)? {
             Some(key) => keys.push(key)?,

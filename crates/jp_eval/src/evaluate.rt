@@ -66,7 +66,7 @@ impl Program {
         };
         let walk = Walk { run: &run, most };
         walk.answer_slots(frame)?;
-        walk.push_steps(start, &self.steps, frame)
+        walk.push_steps(&start, &self.steps, frame)
     }
 
     /// Adds what the steps select from a node. No query from the root was answered before.

@@ -97,7 +97,7 @@ impl<'a> Elements<'a> {
     }
 
     /// The child that a key selects.
-    #[inline(always)]
+    #[inline(never)]
     pub(crate) fn find_by(&mut self, key: &Key) -> Option<Cursor<'a>>
         requires { AreKnown self.old }
         ensures nodes { node_list result ≡ step_nodes (key_view key.now) (node_of self.old.node) }

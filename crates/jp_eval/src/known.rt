@@ -33,20 +33,20 @@ impl<'r, 'a> Walk<'r, 'a> {
     #[inline(never)]
     pub(crate) fn push_known(
         self,
-        node: Cursor<'a>,
+        node: &Cursor<'a>,
         position: usize,
         frame: &mut Frame<'a>,
     ) -> Result<()>
-        requires { IsFrameFor self node frame.old }
-        ensures { Pushes self.entry frame.old frame.new result (nodes (tail_at (table_at self.entry) position) (node_of node.entry ∷ []) (tree_at self.entry)) }
+        requires { IsFrameFor self node.now frame.old }
+        ensures { Pushes self.entry frame.old frame.new result (nodes (tail_at (table_at self.entry) position) (node_of node.now ∷ []) (tree_at self.entry)) }
     {
         if node.first_child().is_none() {
             return self.push_slot(node, position, frame);
         }
-        if self.run.takes_no_note(position, node, frame)? {
+        if self.run.takes_no_note(position, *node, frame)? {
             return self.push_slot(node, position, frame);
         }
-        if let Some(known) = self.run.known_at(position, node, self.most, frame) {
+        if let Some(known) = self.run.known_at(position, *node, self.most, frame) {
             return self.add_known(known, frame);
         }
         self.push_noted(node, position, frame)
@@ -55,9 +55,9 @@ impl<'r, 'a> Walk<'r, 'a> {
     /// Adds what the steps of the slot at a position select from a node.
     #[cycle(eval)]
     #[inline(always)]
-    fn push_slot(self, node: Cursor<'a>, position: usize, frame: &mut Frame<'a>) -> Result<()>
-        requires { IsFrameFor self node frame.old }
-        ensures { Pushes self.entry frame.old frame.new result (nodes (tail_at (table_at self.entry) position) (node_of node.entry ∷ []) (tree_at self.entry)) }
+    fn push_slot(self, node: &Cursor<'a>, position: usize, frame: &mut Frame<'a>) -> Result<()>
+        requires { IsFrameFor self node.now frame.old }
+        ensures { Pushes self.entry frame.old frame.new result (nodes (tail_at (table_at self.entry) position) (node_of node.now ∷ []) (tree_at self.entry)) }
     {
         let Some((inner, steps)) = self.run.steps_at(position) else {
             return Ok(());
@@ -76,9 +76,9 @@ impl<'r, 'a> Walk<'r, 'a> {
     /// that it is known where the node is met again.
     #[cycle(eval)]
     #[inline(never)]
-    fn push_noted(self, node: Cursor<'a>, position: usize, frame: &mut Frame<'a>) -> Result<()>
-        requires { IsFrameFor self node frame.old }
-        ensures { Pushes self.entry frame.old frame.new result (nodes (tail_at (table_at self.entry) position) (node_of node.entry ∷ []) (tree_at self.entry)) }
+    fn push_noted(self, node: &Cursor<'a>, position: usize, frame: &mut Frame<'a>) -> Result<()>
+        requires { IsFrameFor self node.now frame.old }
+        ensures { Pushes self.entry frame.old frame.new result (nodes (tail_at (table_at self.entry) position) (node_of node.now ∷ []) (tree_at self.entry)) }
     {
         let (start, outer) = (frame.found.len(), std::mem::replace(&mut frame.sum, NONE));
         self.push_parts(node, position, frame)?;
@@ -86,10 +86,10 @@ impl<'r, 'a> Walk<'r, 'a> {
         if self.most == LISTED {
             let end = frame.found.len();
             let known = Known::Listed { start, end };
-            return self.run.note(position, node, self.most, known, frame);
+            return self.run.note(position, *node, self.most, known, frame);
         }
         self.run
-            .note(position, node, self.most, Known::Counted(own), frame)?;
+            .note(position, *node, self.most, Known::Counted(own), frame)?;
         frame.count(own)
     }
 
@@ -97,9 +97,9 @@ impl<'r, 'a> Walk<'r, 'a> {
     /// its children is known or becomes so.
     #[cycle(eval)]
     #[inline(always)]
-    fn push_parts(self, node: Cursor<'a>, position: usize, frame: &mut Frame<'a>) -> Result<()>
-        requires { IsFrameFor self node frame.old }
-        ensures { Pushes self.entry frame.old frame.new result (nodes (tail_at (table_at self.entry) position) (node_of node.entry ∷ []) (tree_at self.entry)) }
+    fn push_parts(self, node: &Cursor<'a>, position: usize, frame: &mut Frame<'a>) -> Result<()>
+        requires { IsFrameFor self node.now frame.old }
+        ensures { Pushes self.entry frame.old frame.new result (nodes (tail_at (table_at self.entry) position) (node_of node.now ∷ []) (tree_at self.entry)) }
     {
         let Some((inner, steps)) = self.run.steps_at(position) else {
             return Ok(());
@@ -115,16 +115,16 @@ impl<'r, 'a> Walk<'r, 'a> {
 
     /// Adds what the steps of the slot at a position select from each child of a node.
     #[cycle(eval)]
-    fn push_below(self, node: Cursor<'a>, position: usize, frame: &mut Frame<'a>) -> Result<()>
-        requires { IsFrameFor self node frame.old }
-        ensures { Pushes self.entry frame.old frame.new result (nodes (tail_at (table_at self.entry) position) (children (node_of node.entry)) (tree_at self.entry)) }
+    fn push_below(self, node: &Cursor<'a>, position: usize, frame: &mut Frame<'a>) -> Result<()>
+        requires { IsFrameFor self node.now frame.old }
+        ensures { Pushes self.entry frame.old frame.new result (nodes (tail_at (table_at self.entry) position) (children (node_of node.now)) (tree_at self.entry)) }
     {
         let mut next = node.first_child();
         while let Some(child) = next {
             if frame.has(self.most) {
                 return Ok(());
             }
-            self.push_known(child, position, frame)?;
+            self.push_known(&child, position, frame)?;
             next = child.next_sibling();
         }
         Ok(())
@@ -135,15 +135,15 @@ impl<'r, 'a> Walk<'r, 'a> {
     #[inline(never)]
     pub(crate) fn sum(
         self,
-        node: Cursor<'a>,
+        node: &Cursor<'a>,
         steps: &[Step],
         most: u64,
         frame: &mut Frame<'a>,
     ) -> Result<Sum>
-        requires frame { IsFrameFor self node frame.old }
+        requires frame { IsFrameFor self node.now frame.old }
         requires most { is_listed most ≡ false }
         ensures lends { Lends self.entry frame.old frame.new result }
-        ensures value { IfOk result (λ sum. IsTotal (line_of self.entry.run.now.root.now) most sum (reached self.entry.run.now steps.now (node_of node.entry ∷ []))) }
+        ensures value { IfOk result (λ sum. IsTotal (line_of self.entry.run.now.root.now) most sum (reached self.entry.run.now steps.now (node_of node.now ∷ []))) }
     {
         let outer = std::mem::replace(&mut frame.sum, NONE);
         let run = self.run;

@@ -66,7 +66,7 @@ impl Predicate {
             most: LISTED,
         };
         walk.answer_slots(frame)?;
-        walk.holds(node, &self.condition, frame)
+        walk.holds(&node, &self.condition, frame)
     }
 }
 

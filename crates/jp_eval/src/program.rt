@@ -51,7 +51,7 @@ pub(crate) enum Choice {
 #[cycle(program)]
 #[derive(Drop)]
 pub(crate) enum Condition {
-    Test(Test),
+    Test(Box<Test>),
     /// What the slot at this position asks of the root, so that the answer is the same for each node of a line.
     Once(usize),
 }
@@ -84,16 +84,16 @@ pub(crate) enum Test {
 #[cycle(program)]
 #[derive(Drop)]
 pub(crate) enum Operand {
-    Constant(Constant),
-    Sought(Sought),
+    Constant(Box<Constant>),
+    Sought(Box<Sought>),
 }
 
 /// What spells a pattern.
 #[cycle(program)]
 #[derive(Drop)]
 pub(crate) enum Spelled {
-    Literal(LiteralPattern),
-    Sought(Sought),
+    Literal(Box<LiteralPattern>),
+    Sought(Box<Sought>),
 }
 
 /// A value that is looked for in the line.
@@ -126,7 +126,7 @@ pub(crate) enum Found {
 #[derive(Drop)]
 pub(crate) enum Slot {
     /// Whether a test holds of the root.
-    Test(Test),
+    Test(Box<Test>),
     /// Which value is found at the root.
     Value(Found),
     /// Which nodes the last steps of a query select.

@@ -72,10 +72,10 @@ pub(crate) enum Question {
     /// Whether there is one (RFC 9535, section 2.3.5.2.1).
     Exists,
     /// Whether the value of the single one, or Nothing, compares so with a value (RFC 9535, section 2.3.5.2.2).
-    Compares(CompareOp, Constant),
+    Compares(CompareOp, Box<Constant>),
     /// Whether the value of the single one is a string that passes a pattern, all of it or a part of it (RFC 9535, sections
     /// 2.4.6 and 2.4.7).
-    Passes(bool, LiteralPattern),
+    Passes(bool, Box<LiteralPattern>),
 }
 
 impl Question {

@@ -2,6 +2,10 @@
 //!
 //! The nodes are found node by node: for each child that the first step selects, the other steps go on from there. So no
 //! list is made in between, and a search for one node stops at the first.
+//!
+//! Filters lie within filters, so a walk may be as deep as the query and the line are together. A node is therefore given by
+//! reference: a copy of the cursor in each frame would take most of the stack. What takes much room and is rarely met, and the
+//! calls that must not share a frame, say `#[inline(never)]`.
 
 ghost use Rattle.std.specs.Prelude.{◌≡◌, [], ◌∷◌, IfSome, filter, flat_map};
 ghost use Rattle.jp_model.specs.Meaning.Nodes.{children, subtree};
@@ -26,17 +30,17 @@ impl<'r, 'a> Walk<'r, 'a> {
     #[inline(always)]
     pub(crate) fn push_steps(
         self,
-        node: Cursor<'a>,
+        node: &Cursor<'a>,
         steps: &[Step],
         frame: &mut Frame<'a>,
     ) -> Result<()>
-        requires { IsFrameFor self node frame.old }
-        ensures { Pushes self.entry frame.old frame.new result (reached self.entry.run.now steps.now (node_of node.entry ∷ [])) }
+        requires { IsFrameFor self node.now frame.old }
+        ensures { Pushes self.entry frame.old frame.new result (reached self.entry.run.now steps.now (node_of node.now ∷ [])) }
     {
         if let Some((step, rest)) = steps.split_first() {
             return self.push_step(node, step, rest, frame);
         }
-        frame.add(node, self.most)
+        frame.add(*node, self.most)
     }
 
     /// Adds what the step selects from a node, and the steps from there. Most queries end with a name or an index.
@@ -44,16 +48,16 @@ impl<'r, 'a> Walk<'r, 'a> {
     #[inline(never)]
     fn push_step(
         self,
-        node: Cursor<'a>,
+        node: &Cursor<'a>,
         step: &Step,
         rest: &[Step],
         frame: &mut Frame<'a>,
     ) -> Result<()>
-        requires { IsFrameFor self node frame.old }
-        ensures { Pushes self.entry frame.old frame.new result (reached self.entry.run.now (step.now ∷ rest.now) (node_of node.entry ∷ [])) }
+        requires { IsFrameFor self node.now frame.old }
+        ensures { Pushes self.entry frame.old frame.new result (reached self.entry.run.now (step.now ∷ rest.now) (node_of node.now ∷ [])) }
     {
         match step {
-            Step::One(key) => self.push_found(key.find(node), rest, frame),
+            Step::One(key) => self.push_found(key.find(*node), rest, frame),
             Step::Child(choices) => self.push_choices(node, choices, rest, frame),
             Step::Descendant(choices) => self.push_subtree(node, choices, rest, frame),
             Step::Known(position) => self.push_known(node, *position, frame),
@@ -65,19 +69,19 @@ impl<'r, 'a> Walk<'r, 'a> {
     #[inline(never)]
     fn push_subtree(
         self,
-        node: Cursor<'a>,
+        node: &Cursor<'a>,
         choices: &[Choice],
         rest: &[Step],
         frame: &mut Frame<'a>,
     ) -> Result<()>
-        requires { IsFrameFor self node frame.old }
-        ensures { Pushes self.entry frame.old frame.new result (reached self.entry.run.now rest.now (flat_map (λ d. selected (choices_view (table_at self.entry) choices.now) d (tree_at self.entry)) (subtree (node_of node.entry)))) }
+        requires { IsFrameFor self node.now frame.old }
+        ensures { Pushes self.entry frame.old frame.new result (reached self.entry.run.now rest.now (flat_map (λ d. selected (choices_view (table_at self.entry) choices.now) d (tree_at self.entry)) (subtree (node_of node.now)))) }
     {
         for place in node.place()..node.after() {
             if frame.has(self.most) {
                 return Ok(());
             }
-            self.push_choices(node.go_to(place), choices, rest, frame)?;
+            self.push_choices(&node.go_to(place), choices, rest, frame)?;
         }
         Ok(())
     }
@@ -87,13 +91,13 @@ impl<'r, 'a> Walk<'r, 'a> {
     #[inline(always)]
     pub(crate) fn push_choices(
         self,
-        node: Cursor<'a>,
+        node: &Cursor<'a>,
         choices: &[Choice],
         rest: &[Step],
         frame: &mut Frame<'a>,
     ) -> Result<()>
-        requires { IsFrameFor self node frame.old }
-        ensures { Pushes self.entry frame.old frame.new result (reached self.entry.run.now rest.now (selected (choices_view (table_at self.entry) choices.now) (node_of node.entry) (tree_at self.entry))) }
+        requires { IsFrameFor self node.now frame.old }
+        ensures { Pushes self.entry frame.old frame.new result (reached self.entry.run.now rest.now (selected (choices_view (table_at self.entry) choices.now) (node_of node.now) (tree_at self.entry))) }
     {
         // Most nodes below a node have no children, and nothing is selected from them.
         if node.first_child().is_none() {
@@ -110,15 +114,15 @@ impl<'r, 'a> Walk<'r, 'a> {
     #[inline(never)]
     fn push_several(
         self,
-        node: Cursor<'a>,
+        node: &Cursor<'a>,
         choices: &[Choice],
         rest: &[Step],
         frame: &mut Frame<'a>,
     ) -> Result<()>
-        requires { IsFrameFor self node frame.old }
-        ensures { Pushes self.entry frame.old frame.new result (reached self.entry.run.now rest.now (selected (choices_view (table_at self.entry) choices.now) (node_of node.entry) (tree_at self.entry))) }
+        requires { IsFrameFor self node.now frame.old }
+        ensures { Pushes self.entry frame.old frame.new result (reached self.entry.run.now rest.now (selected (choices_view (table_at self.entry) choices.now) (node_of node.now) (tree_at self.entry))) }
     {
-        let mut elements = Elements::of(node);
+        let mut elements = Elements::of(*node);
         for choice in choices {
             self.push_one_of(&mut elements, choice, rest, frame)?;
         }
@@ -143,7 +147,7 @@ impl<'r, 'a> Walk<'r, 'a> {
     {
         match choice {
             Choice::One(key) => self.push_found(elements.find_by(key), rest, frame),
-            _ => self.push_choice(elements.node, choice, rest, frame),
+            _ => self.push_choice(&elements.node, choice, rest, frame),
         }
     }
 
@@ -152,16 +156,16 @@ impl<'r, 'a> Walk<'r, 'a> {
     #[inline(never)]
     fn push_choice(
         self,
-        node: Cursor<'a>,
+        node: &Cursor<'a>,
         choice: &Choice,
         rest: &[Step],
         frame: &mut Frame<'a>,
     ) -> Result<()>
-        requires { IsFrameFor self node frame.old }
-        ensures { Pushes self.entry frame.old frame.new result (reached self.entry.run.now rest.now (select (choice_view (table_at self.entry) choice.now) (node_of node.entry) (tree_at self.entry))) }
+        requires { IsFrameFor self node.now frame.old }
+        ensures { Pushes self.entry frame.old frame.new result (reached self.entry.run.now rest.now (select (choice_view (table_at self.entry) choice.now) (node_of node.now) (tree_at self.entry))) }
     {
         match choice {
-            Choice::One(key) => self.push_found(key.find(node), rest, frame),
+            Choice::One(key) => self.push_found(key.find(*node), rest, frame),
             Choice::Wildcard => self.push_children(node, rest, frame),
             Choice::Slice { first, last, step } => {
                 let parts = Slice {
@@ -189,23 +193,23 @@ impl<'r, 'a> Walk<'r, 'a> {
         ensures { Pushes self.entry frame.old frame.new result (reached self.entry.run.now rest.now (node_list found.entry)) }
     {
         match found {
-            Some(node) => self.push_steps(node, rest, frame),
+            Some(node) => self.push_steps(&node, rest, frame),
             None => Ok(()),
         }
     }
 
     /// Adds what the steps select from each child.
     #[cycle(eval)]
-    fn push_children(self, node: Cursor<'a>, rest: &[Step], frame: &mut Frame<'a>) -> Result<()>
-        requires { IsFrameFor self node frame.old }
-        ensures { Pushes self.entry frame.old frame.new result (reached self.entry.run.now rest.now (children (node_of node.entry))) }
+    fn push_children(self, node: &Cursor<'a>, rest: &[Step], frame: &mut Frame<'a>) -> Result<()>
+        requires { IsFrameFor self node.now frame.old }
+        ensures { Pushes self.entry frame.old frame.new result (reached self.entry.run.now rest.now (children (node_of node.now))) }
     {
         let mut next = node.first_child();
         while let Some(child) = next {
             if frame.has(self.most) {
                 return Ok(());
             }
-            self.push_steps(child, rest, frame)?;
+            self.push_steps(&child, rest, frame)?;
             next = child.next_sibling();
         }
         Ok(())
@@ -216,13 +220,13 @@ impl<'r, 'a> Walk<'r, 'a> {
     #[inline(never)]
     fn push_where(
         self,
-        node: Cursor<'a>,
+        node: &Cursor<'a>,
         condition: &Condition,
         rest: &[Step],
         frame: &mut Frame<'a>,
     ) -> Result<()>
-        requires { IsFrameFor self node frame.old }
-        ensures { Pushes self.entry frame.old frame.new result (reached self.entry.run.now rest.now (filter (λ c. truth_of (condition_view (table_at self.entry) condition.now) c (tree_at self.entry)) (children (node_of node.entry)))) }
+        requires { IsFrameFor self node.now frame.old }
+        ensures { Pushes self.entry frame.old frame.new result (reached self.entry.run.now rest.now (filter (λ c. truth_of (condition_view (table_at self.entry) condition.now) c (tree_at self.entry)) (children (node_of node.now)))) }
     {
         if let Condition::Once(position) = condition {
             if self.holds_once(*position, frame)? {
@@ -238,13 +242,13 @@ impl<'r, 'a> Walk<'r, 'a> {
     #[inline(always)]
     fn push_tested(
         self,
-        node: Cursor<'a>,
+        node: &Cursor<'a>,
         condition: &Condition,
         rest: &[Step],
         frame: &mut Frame<'a>,
     ) -> Result<()>
-        requires { IsFrameFor self node frame.old }
-        ensures { Pushes self.entry frame.old frame.new result (reached self.entry.run.now rest.now (filter (λ c. truth_of (condition_view (table_at self.entry) condition.now) c (tree_at self.entry)) (children (node_of node.entry)))) }
+        requires { IsFrameFor self node.now frame.old }
+        ensures { Pushes self.entry frame.old frame.new result (reached self.entry.run.now rest.now (filter (λ c. truth_of (condition_view (table_at self.entry) condition.now) c (tree_at self.entry)) (children (node_of node.now)))) }
     {
         self.run.prepare(frame)?;
         let mut next = node.first_child();
@@ -252,8 +256,8 @@ impl<'r, 'a> Walk<'r, 'a> {
             if frame.has(self.most) {
                 return Ok(());
             }
-            if self.holds(child, condition, frame)? {
-                self.push_steps(child, rest, frame)?;
+            if self.holds(&child, condition, frame)? {
+                self.push_steps(&child, rest, frame)?;
             }
             next = child.next_sibling();
         }

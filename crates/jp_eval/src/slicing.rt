@@ -20,18 +20,18 @@ impl<'r, 'a> Walk<'r, 'a> {
     #[inline(never)]
     pub(crate) fn push_slice(
         self,
-        node: Cursor<'a>,
+        node: &Cursor<'a>,
         slice: Slice,
         rest: &[Step],
         frame: &mut Frame<'a>,
     ) -> Result<()>
-        requires { IsFrameFor self node frame.old }
-        ensures { Pushes self.entry frame.old frame.new result (reached self.entry.run.now rest.now (sliced slice.first slice.last slice.step (node_of node.entry))) }
+        requires { IsFrameFor self node.now frame.old }
+        ensures { Pushes self.entry frame.old frame.new result (reached self.entry.run.now rest.now (sliced slice.first slice.last slice.step (node_of node.now))) }
     {
         if slice.step > 0 {
-            return self.push_rising(node, Rising::of(node, slice), rest, frame);
+            return self.push_rising(node, Rising::of(*node, slice), rest, frame);
         }
-        let found = find_falling(self.run.alloc, node, slice)?;
+        let found = find_falling(self.run.alloc, *node, slice)?;
         self.push_each(&found, rest, frame)
     }
 
@@ -39,13 +39,13 @@ impl<'r, 'a> Walk<'r, 'a> {
     #[cycle(eval)]
     fn push_rising(
         self,
-        node: Cursor<'a>,
+        node: &Cursor<'a>,
         slice: Rising,
         rest: &[Step],
         frame: &mut Frame<'a>,
     ) -> Result<()>
-        requires { IsFrameFor self node frame.old }
-        ensures { Pushes self.entry frame.old frame.new result (reached self.entry.run.now rest.now (children_where (is_index (rises slice.low slice.high slice.step)) (node_of node.entry))) }
+        requires { IsFrameFor self node.now frame.old }
+        ensures { Pushes self.entry frame.old frame.new result (reached self.entry.run.now rest.now (children_where (is_index (rises slice.low slice.high slice.step)) (node_of node.now))) }
     {
         let mut next = node.first_child();
         let mut index = 0;
@@ -54,7 +54,7 @@ impl<'r, 'a> Walk<'r, 'a> {
                 return Ok(());
             }
             if slice.has(child, index) {
-                self.push_steps(child, rest, frame)?;
+                self.push_steps(&child, rest, frame)?;
             }
             index += 1;
             next = child.next_sibling();
@@ -70,7 +70,7 @@ impl<'r, 'a> Walk<'r, 'a> {
         ensures { Pushes self.entry frame.old frame.new result (reached self.entry.run.now rest.now (map node_of nodes.now)) }
     {
         for node in nodes {
-            self.push_steps(*node, rest, frame)?;
+            self.push_steps(node, rest, frame)?;
         }
         Ok(())
     }

@@ -36,13 +36,13 @@ impl<'r, 'a> Walk<'r, 'a> {
     #[inline(always)]
     pub(crate) fn value_of(
         self,
-        node: Cursor<'a>,
+        node: &Cursor<'a>,
         operand: &'r Operand,
         frame: &mut Frame<'a>,
     ) -> Result<Value<'r>>
-        requires { IsFrameFor self node frame.old }
+        requires { IsFrameFor self node.now frame.old }
         ensures lends { Lends self.entry frame.old frame.new result }
-        ensures value { IfOk result (λ v. IsValue v (compared_value (operand_view (table_at self.entry) operand.now) (node_of node.entry) (tree_at self.entry))) }
+        ensures value { IfOk result (λ v. IsValue v (compared_value (operand_view (table_at self.entry) operand.now) (node_of node.now) (tree_at self.entry))) }
     {
         match operand {
             Operand::Constant(constant) => Ok(constant.value()),
@@ -55,13 +55,13 @@ impl<'r, 'a> Walk<'r, 'a> {
     #[inline(always)]
     fn sought_value(
         self,
-        node: Cursor<'a>,
+        node: &Cursor<'a>,
         sought: &Sought,
         frame: &mut Frame<'a>,
     ) -> Result<Value<'a>>
-        requires { IsFrameFor self node frame.old }
+        requires { IsFrameFor self node.now frame.old }
         ensures lends { Lends self.entry frame.old frame.new result }
-        ensures value { IfOk result (λ v. IsValue v (compared_value (sought_view (table_at self.entry) sought.now) (node_of node.entry) (tree_at self.entry))) }
+        ensures value { IfOk result (λ v. IsValue v (compared_value (sought_view (table_at self.entry) sought.now) (node_of node.now) (tree_at self.entry))) }
     {
         match sought {
             Sought::Found(found) => self.found_value(node, found, frame),
@@ -73,16 +73,16 @@ impl<'r, 'a> Walk<'r, 'a> {
     #[cycle(eval)]
     pub(crate) fn found_value(
         self,
-        node: Cursor<'a>,
+        node: &Cursor<'a>,
         found: &Found,
         frame: &mut Frame<'a>,
     ) -> Result<Value<'a>>
-        requires { IsFrameFor self node frame.old }
+        requires { IsFrameFor self node.now frame.old }
         ensures lends { Lends self.entry frame.old frame.new result }
-        ensures value { IfOk result (λ v. IsValue v (compared_value (found_view (table_at self.entry) found.now) (node_of node.entry) (tree_at self.entry))) }
+        ensures value { IfOk result (λ v. IsValue v (compared_value (found_view (table_at self.entry) found.now) (node_of node.now) (tree_at self.entry))) }
     {
         match found {
-            Found::Single(keys) => Ok(node_value(follow_keys(keys, node))),
+            Found::Single(keys) => Ok(node_value(follow_keys(keys, *node))),
             Found::Only(steps) => self.only_value(node, steps, frame),
             Found::Value(steps) => self.only_value(node, steps, frame),
             Found::Length(operand) => Ok(length_of(self.value_of(node, operand, frame)?)),
@@ -94,13 +94,13 @@ impl<'r, 'a> Walk<'r, 'a> {
     #[cycle(eval)]
     fn only_value(
         self,
-        node: Cursor<'a>,
+        node: &Cursor<'a>,
         steps: &[Step],
         frame: &mut Frame<'a>,
     ) -> Result<Value<'a>>
-        requires { IsFrameFor self node frame.old }
+        requires { IsFrameFor self node.now frame.old }
         ensures lends { Lends self.entry frame.old frame.new result }
-        ensures value { IfOk result (λ v. IsValue v (single_value_of (reached self.entry.run.now steps.now (node_of node.entry ∷ [])))) }
+        ensures value { IfOk result (λ v. IsValue v (single_value_of (reached self.entry.run.now steps.now (node_of node.now ∷ [])))) }
     {
         let sum = self.sum(node, steps, 2, frame)?;
         if sum.count == 1 {
@@ -112,10 +112,10 @@ impl<'r, 'a> Walk<'r, 'a> {
 
     /// How many nodes the steps select. `COUNTED` of them and more are refused as memory is.
     #[cycle(eval)]
-    fn count_nodes(self, node: Cursor<'a>, steps: &[Step], frame: &mut Frame<'a>) -> Result<u64>
-        requires { IsFrameFor self node frame.old }
+    fn count_nodes(self, node: &Cursor<'a>, steps: &[Step], frame: &mut Frame<'a>) -> Result<u64>
+        requires { IsFrameFor self node.now frame.old }
         ensures lends { Lends self.entry frame.old frame.new result }
-        ensures value { IfOk result (λ count. count ≡ length (reached self.entry.run.now steps.now (node_of node.entry ∷ []))) }
+        ensures value { IfOk result (λ count. count ≡ length (reached self.entry.run.now steps.now (node_of node.now ∷ []))) }
     {
         let sum = self.sum(node, steps, COUNTED, frame)?;
         if sum.count >= COUNTED {

@@ -1,9 +1,13 @@
 //! Where a second way can lead to a node.
 
-ghost use Rattle.std.specs.Prelude.{◌≡◌, ◌++◌, ◌∷◌, [], OnOk};
-ghost use Rattle.jp_eval.specs.Programs.{steps_in};
+ghost use Rattle.std.specs.Prelude.{◌≡◌, ◌++◌, ◌∷◌, [], true, false, IfOk, OnOk};
+ghost use Rattle.jp_model.specs.Query.Syntax.{segment as syntax_segment};
+ghost use Rattle.jp_syntax.specs.View.{segment_view};
+ghost use Rattle.jp_eval.specs.Programs.{Table, step_view, steps_in};
+ghost use Rattle.jp_eval.specs.declared.program.Step.{Step};
 
 use crate::Result;
+use crate::constants::compile_key;
 use crate::program::{Choice, Step};
 use jp_syntax::Segment;
 use std::alloc::Global;
@@ -72,25 +76,43 @@ pub(crate) struct Parts {
 }
 
 impl Parts {
-    /// No step.
-    pub(crate) fn new(alloc: Global) -> Parts
-        ensures { steps_in result ≡ [] }
+    /// No step, and room in the first part for this number of them.
+    pub(crate) fn new(alloc: Global, steps: usize) -> Result<Parts>
+        ensures { IfOk result (λ parts. steps_in parts ≡ []) }
     {
-        Parts {
+        Ok(Parts {
             before: Vec::new(alloc),
-            last: Vec::new(alloc),
-        }
+            last: Vec::with_capacity(alloc, steps)?,
+        })
     }
 
     /// Adds a step, which goes on from nodes that lie so.
+    #[inline(never)]
     pub(crate) fn add(&mut self, alloc: Global, ways: Ways, step: Step) -> Result<()>
         ensures { OnOk result (steps_in self.new ≡ steps_in self.old ++ step ∷ []) }
     {
         if ways.repeats(&step) {
-            let part = std::mem::replace(&mut self.last, Vec::new(alloc));
+            // Room for the step and the one along the slot of those after it.
+            let next = Vec::with_capacity(alloc, 2)?;
+            let part = std::mem::replace(&mut self.last, next);
             self.before.push(part)?;
         }
         self.last.push(step)?;
         Ok(())
+    }
+    /// Adds the step along the key of a segment, which goes on from nodes that lie so, and answers whether the segment has one.
+    /// If it has none, no step is added.
+    #[inline(never)]
+    pub(crate) fn add_key(&mut self, alloc: Global, ways: Ways, segment: &Segment) -> Result<bool>
+        ensures added { IfOk result (λ added. added ≡ true → (step : Step) × ((steps_in self.new ≡ steps_in self.old ++ step ∷ []) × ((table : Table) → step_view table step ≡ syntax_segment (segment_view segment.now)))) }
+        ensures none { IfOk result (λ added. added ≡ false → self.new ≡ self.old) }
+    {
+        match compile_key(alloc, segment)? {
+            Some(key) => {
+                self.add(alloc, ways, Step::One(key))?;
+                Ok(true)
+            }
+            None => Ok(false),
+        }
     }
 }

@@ -13,20 +13,23 @@ use Rattle.jp_eval.proofs.compile.Compiler.+compile.Given as goal
 abbrev pub decreases-compile_segments : goal.decreases-compile_segments
 decreases-compile_segments l = size_of_segments (segments_view l.segments.now) + 1
 
-abbrev pub decreases-compile_segment : goal.decreases-compile_segment
-decreases-compile_segment l = size_of_segment (segment_view l.segment.now)
+abbrev pub decreases-push_segment : goal.decreases-push_segment
+decreases-push_segment l = size_of_segment (segment_view l.segment.now)
 
 abbrev pub decreases-compile_selectors : goal.decreases-compile_selectors
 decreases-compile_selectors l = size_of_selectors (selectors_view l.selectors.now) + 1
 
-abbrev pub decreases-compile_selector : goal.decreases-compile_selector
-decreases-compile_selector l = size_of_selector (selector_view l.selector.now)
+abbrev pub decreases-push_selector : goal.decreases-push_selector
+decreases-push_selector l = size_of_selector (selector_view l.selector.now)
 
 abbrev pub decreases-compile_logicals : goal.decreases-compile_logicals
 decreases-compile_logicals l = size_of_logicals (logicals_view l.parts.now)
 
 abbrev pub decreases-compile_logical : goal.decreases-compile_logical
-decreases-compile_logical l = size_of_logical (logical_view l.expression.now) + 1
+decreases-compile_logical l = size_of_logical (logical_view l.expression.now) + 2
+
+abbrev pub decreases-compile_once : goal.decreases-compile_once
+decreases-compile_once l = size_of_logical (logical_view l.expression.now) + 1
 
 abbrev pub decreases-compile_test : goal.decreases-compile_test
 decreases-compile_test l = size_of_logical (logical_view l.expression.now)

@@ -11,7 +11,7 @@ use Rattle.jp_eval.proofs.compile.Compiler.add_test.Goals as goal
 
 pub returns : goal.returns
 returns c =
-    let made : Logical = test_view (table_of c.args.self.now.slots.items) c.args.test in
+    let made : Logical = test_view (table_of c.args.self.now.slots.items) c.args.test.value in
     let position = c.in_ok-position.position in
     slot_means c.args.self.now.slots.items c.add_slot.new.self.slots.items (expression made) (λ (table : Table). condition_view table (conditions.Once position)) (λ (o : Option Meant). logical_from_root (logical_or_none o)) position (logical_from_root made)
     (λ table. once_is table position) refl c.in_ok-position.ensures.added c.in_ok-position.ensures.position

@@ -1,5 +1,5 @@
 -- What was added is what the steps select, and what was answered is what the parts of a filter mean.
-use Rattle.std.proofs.Common.{rules, w64, ℤ, Bool, ◌≡◌, ◌∙◌, ◌<◌, ◌+◌, ◌-◌, ◌++◌, [], ◌∷◌, List, ℕ, true, false, refl, map, drop, length, filter, flat_map, sym, ap, ap₂, subst, arith, Some, None, Option, Ok, Vec, Global}
+use Rattle.std.proofs.Common.{rules, w64, ℤ, Bool, ◌≡◌, ◌∙◌, ◌<◌, ◌+◌, ◌-◌, ◌++◌, [], ◌∷◌, List, ℕ, true, false, refl, map, drop, length, filter, flat_map, sym, ap, ap₂, subst, arith, Some, None, Option, Ok, Box, Vec, Global}
 use Rattle.std.specs.Prelude.{IfOk, IfSome, OnOk, not, option_map, slice_get}
 use Rattle.jp_model.specs.Json.Tree.{Tree, Value, value_of}
 use Rattle.jp_model.specs.Meaning.Nodes.{Node, children, children_where, root_node, subtree}
@@ -22,7 +22,7 @@ use Rattle.jp_eval.specs.Frames.{AreKept, Pushes, reached}
 use Rattle.jp_iregexp.specs.Trees.{pattern_view}
 use Rattle.jp_iregexp.specs.declared.pattern.Pattern.{Pattern}
 use Rattle.jp_eval.specs.Functions.{passing, pattern_in}
-use Rattle.jp_eval.specs.Programs.{Onward, Table, logical_at, side_at, tail_at, step_view, steps_view, choices_view, choice_view, condition_view, test_view, operand_view, spelled_view, sought_view, found_view}
+use Rattle.jp_eval.specs.Programs.{Onward, Table, argument_of, logical_at, side_at, tail_at, step_view, steps_view, choices_view, choice_view, condition_view, test_view, operand_view, spelled_view, sought_view, found_view}
 use Rattle.jp_eval.specs.Tallies.{tally}
 use Rattle.jp_children.specs.Walks.{IsAt, rises}
 use Rattle.jp_eval.specs.declared.frame.Answer.{Answer}
@@ -109,7 +109,7 @@ push_subtree-loop-place-preserved t c =
     let u : Tree = (node_of c.args.self.run.now.root.now).tree in
     let ss : Segments = steps_view (table_in c.args.self.run.now) c.args.rest.now in
     let f = λ (d : Node). selected (choices_view (table_in c.args.self.run.now) c.args.choices.now) d u in
-    let n : Cursor = c.args.node in
+    let n : Cursor = c.args.node.now in
     let d : Cursor = c.go_to.result in
     let place : ℕ = c.loop-place.place in
     let all : List Node = subtree (node_of n) in
@@ -129,7 +129,7 @@ push_subtree-returns t c =
     let u : Tree = (node_of c.args.self.run.now.root.now).tree in
     let ss : Segments = steps_view (table_in c.args.self.run.now) c.args.rest.now in
     let f = λ (d : Node). selected (choices_view (table_in c.args.self.run.now) c.args.choices.now) d u in
-    let n : Cursor = c.args.node in
+    let n : Cursor = c.args.node.now in
     let all : List Node = subtree (node_of n) in
     let stop = c.after-place-end.ensures.value in
     let none : drop (c.loop-place.place - place_of n) all ≡ [] = drop_all (c.loop-place.place - place_of n) all (omega (arith, stop, c.loop-place-test.false)) in
@@ -157,7 +157,7 @@ push_tested-loop-next-preserved t c =
     let child : Cursor = c.in-Some.child in
     let kept = c.loop-next.invariant in
     let next : Option Cursor = c.next_sibling-next.result in
-    let total : List Node = nodes ss (filter p (children (node_of c.args.node))) u in
+    let total : List Node = nodes ss (filter p (children (node_of c.args.node.now))) u in
     let here : Goes c.args.self c.args.frame.now c.holds.new.frame (nodes ss (filter p (node_of child ∷ nodes_after child)) u) total =
     goes_lent c.holds.new.frame (others_are (nodes ss (filter p (nodes_from (Some child))) u) (ap (λ (o : Option Cursor). nodes ss (filter p (nodes_from o)) u) c.in-Some.is) kept.goes) c.in_ok-holds.ensures.lends in
     let goes : Goes c.args.self c.args.frame.now c.if-branch.frame (nodes ss (filter p (nodes_after child)) u) total =
@@ -217,7 +217,7 @@ pub push_choices-returns-then-is_none : goal.push_choices-returns-then-is_none
 push_choices-returns-then-is_none t c =
     let u : Tree = (node_of c.args.self.run.now.root.now).tree in
     let ss : Segments = steps_view (table_in c.args.self.run.now) c.args.rest.now in
-    let n : Node = node_of c.args.node in
+    let n : Node = node_of c.args.node.now in
     let none : children n ≡ [] = sym c.first_child.ensures.nodes ∙ none_first c.first_child.result (c.is_none.ensures ∙ ap not c.if-is_none.true) in
     nothing_added c.args.self c.args.frame.now ss u _ c.requires.kept (none_selected (choices_view (table_in c.args.self.run.now) c.args.choices.now) n u none)
 
@@ -229,7 +229,7 @@ pub push_several-loop-choice-preserved : goal.push_several-loop-choice-preserved
 push_several-loop-choice-preserved t c =
     let u : Tree = (node_of c.args.self.run.now.root.now).tree in
     let ss : Segments = steps_view (table_in c.args.self.run.now) c.args.rest.now in
-    let n : Node = node_of c.args.node in
+    let n : Node = node_of c.args.node.now in
     let i : ℕ = c.loop-choice.choice-index in
     let all : List Choice = c.args.choices.now in
     let first : Choice = c.choice-item.result in
@@ -251,14 +251,14 @@ pub push_several-returns : goal.push_several-returns
 push_several-returns t c =
     let u : Tree = (node_of c.args.self.run.now.root.now).tree in
     let ss : Segments = steps_view (table_in c.args.self.run.now) c.args.rest.now in
-    let n : Node = node_of c.args.node in
+    let n : Node = node_of c.args.node.now in
     is_done c.loop-choice.invariant.goes (ap (λ (l : List Choice). nodes ss (selected (choices_view (table_in c.args.self.run.now) l) n u) u) (drop_all c.loop-choice.choice-index c.args.choices.now c.loop-choice-test.false) ∙ no_nodes ss u)
 
 -- ---- slices
 
 pub push_choice-returns-in-Slice : goal.push_choice-returns-in-Slice
 push_choice-returns-in-Slice t c =
-    let n : Node = node_of c.args.node in
+    let n : Node = node_of c.args.node.now in
     let u : Tree = (node_of c.args.self.run.now.root.now).tree in
     let fits : to_z w64 (of_z w64 c.unwrap_or.result) ≡ c.unwrap_or.result = search rules in
     let seen = ap (choice_view (table_in c.args.self.run.now)) c.in-Slice.is ∙ slice_is (table_in c.args.self.run.now) c.in-Slice.first c.in-Slice.last c.in-Slice.step in
@@ -285,7 +285,7 @@ pub push_rising-loop-next-preserved : goal.push_rising-loop-next-preserved
 push_rising-loop-next-preserved t c =
     let u : Tree = (node_of c.args.self.run.now.root.now).tree in
     let ss : Segments = steps_view (table_in c.args.self.run.now) c.args.rest.now in
-    let n : Node = node_of c.args.node in
+    let n : Node = node_of c.args.node.now in
     let passes : Step → Bool = is_index (rises c.args.slice.low c.args.slice.high c.args.slice.step) in
     let i : ℕ = c.loop-next.index in
     let child : Cursor = c.in-Some.child in
@@ -317,15 +317,15 @@ pub push_rising-returns : goal.push_rising-returns
 push_rising-returns t c =
     let u : Tree = (node_of c.args.self.run.now.root.now).tree in
     let ss : Segments = steps_view (table_in c.args.self.run.now) c.args.rest.now in
-    let n : Node = node_of c.args.node in
+    let n : Node = node_of c.args.node.now in
     is_done c.loop-next.invariant.goes (ap (λ (o : Option Cursor). nodes ss (chosen_from (is_index (rises c.args.slice.low c.args.slice.high c.args.slice.step)) n c.loop-next.index o) u) c.in_default.is ∙ no_nodes ss u)
 
 pub push_rising-overflow_add-index : goal.push_rising-overflow_add-index
 push_rising-overflow_add-index t c =
-    let n : Node = node_of c.args.node in
+    let n : Node = node_of c.args.node.now in
     let i : ℕ = c.loop-next.index in
     let at : IsAt n i (Some c.in-Some.child) = subst (λ (o : Option Cursor). IsAt n i o) c.in-Some.is c.loop-next.invariant.at in
-    let small = index_fits c.args.node i c.in-Some.child at in
+    let small = index_fits c.args.node.now i c.in-Some.child at in
     omega (arith, small)
 
 -- ---- what is found of a name or an index
@@ -342,7 +342,7 @@ pub push_rising-returns-then-has : goal.push_rising-returns-then-has
 push_rising-returns-then-has t c =
     let u : Tree = (node_of c.args.self.run.now.root.now).tree in
     let ss : Segments = steps_view (table_in c.args.self.run.now) c.args.rest.now in
-    let n : Node = node_of c.args.node in
+    let n : Node = node_of c.args.node.now in
     let r = c.args.slice in
     elim c.then-has.branch [
       | push_rising-then-has-via-then-has w ↦ is_full c.loop-next.invariant.goes (c.has.ensures w.if-has.true)
@@ -356,7 +356,7 @@ push_subtree-loop-place-init t c =
     let u : Tree = (node_of c.args.self.run.now.root.now).tree in
     let ss : Segments = steps_view (table_in c.args.self.run.now) c.args.rest.now in
     let f = λ (d : Node). selected (choices_view (table_in c.args.self.run.now) c.args.choices.now) d u in
-    let n : Cursor = c.args.node in
+    let n : Cursor = c.args.node.now in
     let start = c.place-place.ensures.value in
     let zero : c.place-place.result - place_of n ≡ 0 = omega (arith, start) in
     record { goes = begins c.args.self c.args.frame.now c.args.frame.now _ _ c.requires.kept refl refl (ap (λ (k : ℕ). nodes ss (flat_map f (drop k (subtree (node_of n)))) u) zero) }
@@ -380,7 +380,7 @@ holds-holds_once-requires t c =
 pub holds-returns-in-Once-clause-value : goal.holds-returns-in-Once-clause-value
 holds-returns-in-Once-clause-value t c =
     let run : Run = c.args.self.run.now in
-    let n : Node = node_of c.args.node in
+    let n : Node = node_of c.args.node.now in
     let u : Tree = (node_of c.args.self.run.now.root.now).tree in
     let seen = ap (λ (x : Condition). truth (condition_view (table_in run) x) n u) c.in-Once.is ∙ once_told run c.in-Once.position n in
     subst (λ (v : Bool). IfOk c.holds_once.result (λ b. b ≡ v)) (sym seen) c.holds_once.ensures.value
@@ -391,7 +391,7 @@ push_where-returns-then-branch t c =
     let u : Tree = (node_of c.args.self.run.now.root.now).tree in
     let ss : Segments = steps_view (table_in c.args.self.run.now) c.args.rest.now in
     let p = λ (n : Node). truth (condition_view (table_in run) c.args.condition.now) n u in
-    let below : List Node = children (node_of c.args.node) in
+    let below : List Node = children (node_of c.args.node.now) in
     let told : (n : Node) → p n ≡ slot_truth run c.in-Once.position = λ n. ap (λ (x : Condition). truth (condition_view (table_in run) x) n u) c.in-Once.is ∙ once_told run c.in-Once.position n in
     let all : filter p below ≡ below = filter_all p below (λ n. told n ∙ (sym c.in_ok-holds_once.ensures.value ∙ c.if-branch.true)) in
     subst (λ (l : List Node). Pushes c.args.self c.args.frame.now c.push_children.new.frame c.push_children.result (nodes ss l u)) (sym all)
@@ -403,7 +403,7 @@ push_where-returns-in-Once t c =
     let u : Tree = (node_of c.args.self.run.now.root.now).tree in
     let ss : Segments = steps_view (table_in c.args.self.run.now) c.args.rest.now in
     let p = λ (n : Node). truth (condition_view (table_in run) c.args.condition.now) n u in
-    let below : List Node = children (node_of c.args.node) in
+    let below : List Node = children (node_of c.args.node.now) in
     let told : (n : Node) → p n ≡ slot_truth run c.in-Once.position = λ n. ap (λ (x : Condition). truth (condition_view (table_in run) x) n u) c.in-Once.is ∙ once_told run c.in-Once.position n in
     let none : filter p below ≡ [] = filter_none p below (λ n. told n ∙ (sym c.in_ok-holds_once.ensures.value ∙ c.if-branch.false)) in
     is_done (goes_lent c.holds_once.new.frame (begins c.args.self c.args.frame.now c.args.frame.now [] (nodes ss (filter p below) u) c.requires.kept refl refl (sym (ap (λ (l : List Node). nodes ss l u) none ∙ no_nodes ss u))) c.in_ok-holds_once.ensures.lends) refl
@@ -462,20 +462,20 @@ sought_value-value_once-requires t c =
 pub sought_value-returns-in-Once-clause-value : goal.sought_value-returns-in-Once-clause-value
 sought_value-returns-in-Once-clause-value t c =
     let run : Run = c.args.self.run.now in
-    let n : Node = node_of c.args.node in
+    let n : Node = node_of c.args.node.now in
     let u : Tree = (node_of c.args.self.run.now.root.now).tree in
     let seen = ap (λ (x : Sought). compared_value (sought_view (table_in run) x) n u) c.in-Once.is ∙ once_found run c.in-Once.position n in
     subst (λ (v : Option Value). IfOk c.value_once.result (λ x. IsValue x v)) (sym seen) c.value_once.ensures.value
 
 -- ---- texts and patterns
 
-sought_so : (x : Spelled) (s y : Sought) → x ≡ spellings.Sought s → s ≡ y → x ≡ spellings.Sought y
-sought_so x s y e f = e ∙ ap (λ (z : Sought). spellings.Sought z) f
+spelled_so : (table : Table) (x : Spelled) (s : Box Sought Global) (y : Sought) → x ≡ spellings.Sought s → s.value ≡ y → spelled_view table x ≡ argument_of (sought_view table y)
+spelled_so table x s y e f = ap (spelled_view table) e ∙ (spelled_is table s ∙ ap (λ (z : Sought). argument_of (sought_view table z)) f)
 
 pub passes_any-returns-in-Passes-clause-value : goal.passes_any-returns-in-Passes-clause-value
 passes_any-returns-in-Passes-clause-value t c =
     let table : Table = table_in c.args.self.run.now in
-    let n : Node = node_of c.args.node in
+    let n : Node = node_of c.args.node.now in
     let u : Tree = (node_of c.args.self.run.now.root.now).tree in
     let whole : Bool = c.in-Passes.whole in
     let text : Operand = c.in-Passes.text in
@@ -503,50 +503,50 @@ pub passes_pattern-passes_once-requires : goal.passes_pattern-passes_once-requir
 passes_pattern-passes_once-requires t c =
     let table : Table = table_in c.args.self.run.now in
     let position : ℕ = c.in-Once.position in
-    let is : c.args.pattern.now ≡ spellings.Sought (things.Once position) = sought_so c.args.pattern.now c.in-Sought.sought (things.Once position) c.in-Sought.is c.in-Once.is in
-    let size = ap (λ (x : Spelled). size_of_argument (spelled_view table x)) is ∙ (ap size_of_argument (spelled_is table (things.Once position)) ∙ (given_size (sought_view table (things.Once position)) ∙ (ap size_of_comparable (sought_once table position) ∙ side_size (side_at table position)))) in
+    let seen = spelled_so table c.args.pattern.now c.in-Sought.sought (things.Once position) c.in-Sought.is (sym c.deref-in-Sought.ensures ∙ c.in-Once.is) in
+    let size = ap size_of_argument seen ∙ (given_size (sought_view table (things.Once position)) ∙ (ap size_of_comparable (sought_once table position) ∙ side_size (side_at table position))) in
     (omega (arith, size, c.decreases), c.in_ok-text.ensures.lends.kept)
 
 pub passes_pattern-returns-in-Literal-clause-value : goal.passes_pattern-returns-in-Literal-clause-value
 passes_pattern-returns-in-Literal-clause-value t c =
     let run : Run = c.args.self.run.now in
-    let n : Node = node_of c.args.node in
+    let n : Node = node_of c.args.node.now in
     let u : Tree = (node_of c.args.self.run.now.root.now).tree in
     let given = λ (x : Spelled). (given_by (spelled_view (table_in run) x) n u).value in
     let test = passing c.args.whole in
     let own : Option Value = value_view c.in_ok-text.text in
-    let pattern : LiteralPattern = c.in-Literal.pattern in
+    let pattern : LiteralPattern = c.in-Literal.pattern.value in
     let spelled : Option Value = Some (literal_value (literal_view pattern.constant.literal)) in
-    let second : spelled ≡ given c.args.pattern.now = sym (ap given c.in-Literal.is ∙ ap (λ (a : syntax.Argument). (given_by a n u).value) (literal_is (table_in run) pattern)) in
+    let second : spelled ≡ given c.args.pattern.now = sym (ap given c.in-Literal.is ∙ ap (λ (a : syntax.Argument). (given_by a n u).value) (literal_is (table_in run) c.in-Literal.pattern)) in
     let is = ap₂ (in_pattern test) c.in_ok-text.ensures.value.value second in
     ∥∥₁_elim pattern.spelled (one_proof c.read_passes.result _)
-    (λ e. subst (λ (b : Bool). IfOk c.read_passes.result (λ a. a ≡ b)) is (told c.read_passes.result test _ own spelled e c.read_passes.ensures))
+    (λ e. subst (λ (b : Bool). IfOk c.read_passes.result (λ a. a ≡ b)) is (told c.read_passes.result test _ own spelled (ap (λ (p : LiteralPattern). option_map pattern_view p.read) c.deref.ensures ∙ e) c.read_passes.ensures))
 
 pub passes_pattern-returns-in-Once-clause-value : goal.passes_pattern-returns-in-Once-clause-value
 passes_pattern-returns-in-Once-clause-value t c =
     let run : Run = c.args.self.run.now in
-    let n : Node = node_of c.args.node in
+    let n : Node = node_of c.args.node.now in
     let u : Tree = (node_of c.args.self.run.now.root.now).tree in
     let given = λ (x : Spelled). (given_by (spelled_view (table_in run) x) n u).value in
     let test = passing c.args.whole in
     let own : Option Value = value_view c.in_ok-text.text in
     let position : ℕ = c.in-Once.position in
-    let at : c.args.pattern.now ≡ spellings.Sought (things.Once position) = sought_so c.args.pattern.now c.in-Sought.sought (things.Once position) c.in-Sought.is c.in-Once.is in
-    let second : slot_value run position ≡ given c.args.pattern.now = sym (ap given at ∙ (ap (λ (a : syntax.Argument). (given_by a n u).value) (spelled_is (table_in run) (things.Once position)) ∙ once_given run position n)) in
+    let seen = spelled_so (table_in run) c.args.pattern.now c.in-Sought.sought (things.Once position) c.in-Sought.is (sym c.deref-in-Sought.ensures ∙ c.in-Once.is) in
+    let second : slot_value run position ≡ given c.args.pattern.now = sym (ap (λ (a : syntax.Argument). (given_by a n u).value) seen ∙ once_given run position n) in
     subst (λ (v : Bool). IfOk c.passes_once.result (λ b. b ≡ v)) (ap₂ (in_pattern test) c.in_ok-text.ensures.value.value second) c.passes_once.ensures.value
 
 pub passes_pattern-returns-in_ok-read-in-Found-clause-value : goal.passes_pattern-returns-in_ok-read-in-Found-clause-value
 passes_pattern-returns-in_ok-read-in-Found-clause-value t c =
     let run : Run = c.args.self.run.now in
-    let n : Node = node_of c.args.node in
+    let n : Node = node_of c.args.node.now in
     let u : Tree = (node_of c.args.self.run.now.root.now).tree in
     let given = λ (x : Spelled). (given_by (spelled_view (table_in run) x) n u).value in
     let test = passing c.args.whole in
     let own : Option Value = value_view c.in_ok-text.text in
     let found : Found = c.in-Found.found in
-    let at : c.args.pattern.now ≡ spellings.Sought (things.Found found) = sought_so c.args.pattern.now c.in-Sought.sought (things.Found found) c.in-Sought.is c.in-Found.is in
+    let seen = spelled_so (table_in run) c.args.pattern.now c.in-Sought.sought (things.Found found) c.in-Sought.is (sym c.deref-in-Sought.ensures ∙ c.in-Found.is) in
     let there : given c.args.pattern.now ≡ compared_value (found_view (table_in run) found) n u =
-    ap given at ∙ (ap (λ (a : syntax.Argument). (given_by a n u).value) (spelled_is (table_in run) (things.Found found)) ∙ (given_so (sought_view (table_in run) (things.Found found)) n u ∙ ap (λ (a : syntax.Comparable). compared_value a n u) (found_is (table_in run) found))) in
+    ap (λ (a : syntax.Argument). (given_by a n u).value) seen ∙ (given_so (sought_view (table_in run) (things.Found found)) n u ∙ ap (λ (a : syntax.Comparable). compared_value a n u) (found_is (table_in run) found)) in
     let second = c.in_ok-value-in-Found.ensures.value.value ∙ sym there in
     subst (λ (v : Bool). IfOk c.read_passes-in-Found.result (λ b. b ≡ v)) (ap₂ (in_pattern test) c.in_ok-text.ensures.value.value second)
     (told c.read_passes-in-Found.result test _ own _ c.in_ok-read-in-Found.ensures c.read_passes-in-Found.ensures)
@@ -576,7 +576,7 @@ push_step-push_known-requires t c =
 pub push_slot-returns : goal.push_slot-returns
 push_slot-returns t c =
     let run : Run = c.args.self.run.now in
-    let n : Node = node_of c.args.node in
+    let n : Node = node_of c.args.node.now in
     let none : children n ≡ [] = sym c.first_child.ensures.nodes ∙ none_first c.first_child.result (c.is_none.ensures ∙ ap not c.if-is_none.true) in
     is_done
     (begins c.args.self c.args.frame.now c.args.frame.now [] (nodes (tail_at (table_in run) c.args.position) (n ∷ []) (node_of run.root.now).tree) c.requires.kept refl refl
@@ -588,26 +588,26 @@ push_slot-returns t c =
 pub count_nodes-returns-clause-value : goal.count_nodes-returns-clause-value
 count_nodes-returns-clause-value t c =
     let run : Run = c.args.self.run.now in
-    counted_all (line_of run.root.now) 18446744073709551614 c.in_ok-sum.sum (reached run c.args.steps.now (node_of c.args.node ∷ [])) c.in_ok-sum.ensures.value c.if-sum-ge-COUNTED.false
+    counted_all (line_of run.root.now) 18446744073709551614 c.in_ok-sum.sum (reached run c.args.steps.now (node_of c.args.node.now ∷ [])) c.in_ok-sum.ensures.value c.if-sum-ge-COUNTED.false
 
 pub has_node-returns-clause-value : goal.has_node-returns-clause-value
 has_node-returns-clause-value t c =
     let run : Run = c.args.self.run.now in
-    has_some (line_of run.root.now) c.in_ok-sum.field-0 (reached run c.args.steps.now (node_of c.args.node ∷ [])) c.in_ok-sum.ensures.value
+    has_some (line_of run.root.now) c.in_ok-sum.field-0 (reached run c.args.steps.now (node_of c.args.node.now ∷ [])) c.in_ok-sum.ensures.value
 
 pub only_value-go_to-requires : goal.only_value-go_to-requires
 only_value-go_to-requires t c =
     let run : Run = c.args.self.run.now in
     let last : ℕ = c.in_ok-sum.sum.last in
-    let one = only_one (line_of run.root.now) c.in_ok-sum.sum (reached run c.args.steps.now (node_of c.args.node ∷ [])) c.in_ok-sum.ensures.value c.if-sum-eq1.true in
+    let one = only_one (line_of run.root.now) c.in_ok-sum.sum (reached run c.args.steps.now (node_of c.args.node.now ∷ [])) c.in_ok-sum.ensures.value c.if-sum-eq1.true in
     subst (λ (l : List ℕ). last < length (subtree (root_node (spelled l)))) (sym c.requires.line) (slice_get_within (subtree (root_node (spelled (line_of run.root.now)))) last one.0 one.1.0)
 
 pub only_value-returns-then-sum-eq1-clause-value : goal.only_value-returns-then-sum-eq1-clause-value
 only_value-returns-then-sum-eq1-clause-value t c =
     let run : Run = c.args.self.run.now in
     let last : ℕ = c.in_ok-sum.sum.last in
-    let line : List ℕ = line_of c.args.node in
-    let one = only_one (line_of run.root.now) c.in_ok-sum.sum (reached run c.args.steps.now (node_of c.args.node ∷ [])) c.in_ok-sum.ensures.value c.if-sum-eq1.true in
+    let line : List ℕ = line_of c.args.node.now in
+    let one = only_one (line_of run.root.now) c.in_ok-sum.sum (reached run c.args.steps.now (node_of c.args.node.now ∷ [])) c.in_ok-sum.ensures.value c.if-sum-eq1.true in
     let there = subst (λ (l : List ℕ). slice_get (subtree (root_node (spelled l))) last ≡ Some one.0) (sym c.requires.line) one.1.0 in
     let same : node_of c.go_to.result ≡ one.0 = same_node (subtree (root_node (spelled line))) last (node_of c.go_to.result) one.0 c.go_to.ensures.node there in
     record { value = ap (λ (n : Node). Some (value_of n.tree)) same ∙ one.1.1; sound = refl }
@@ -618,11 +618,11 @@ pub push_slot-push_steps-requires : goal.push_slot-push_steps-requires
 push_slot-push_steps-requires t c =
     let size = slot_size c.args.self.run.now c.in-Some.inner c.args.position c.in-Some.steps.now c.in-Some.ensures.view in
     let known = c.in-Some.ensures.known in
-    (omega (arith, size, known, c.decreases), frame_in c.args.node c.args.frame.now c.in-Some.ensures.run c.requires.line c.requires.kept)
+    (omega (arith, size, known, c.decreases), frame_in c.args.node.now c.args.frame.now c.in-Some.ensures.run c.requires.line c.requires.kept)
 
 pub push_slot-returns-2 : goal.push_slot-returns-2
 push_slot-returns-2 t c =
-    let n : Node = node_of c.args.node in
+    let n : Node = node_of c.args.node.now in
     subst (λ (l : List Node). Pushes c.args.self c.args.frame.now c.push_steps.new.frame c.push_steps.result l)
     (slot_reached c.args.self.run.now c.in-Some.inner c.args.position c.in-Some.steps.now (n ∷ []) c.in-Some.ensures.run c.in-Some.ensures.view)
     (pushed_back c.args.self c.in-Some.ensures.run refl c.push_steps.ensures)
@@ -631,11 +631,11 @@ pub push_parts-push_steps-requires : goal.push_parts-push_steps-requires
 push_parts-push_steps-requires t c =
     let size = slot_size c.args.self.run.now c.in-Some.inner c.args.position c.in-Some.steps.now c.in-Some.ensures.view in
     let known = c.in-Some.ensures.known in
-    (omega (arith, size, known, c.decreases), frame_in c.args.node c.args.frame.now c.in-Some.ensures.run c.requires.line c.requires.kept)
+    (omega (arith, size, known, c.decreases), frame_in c.args.node.now c.args.frame.now c.in-Some.ensures.run c.requires.line c.requires.kept)
 
 pub push_parts-returns : goal.push_parts-returns
 push_parts-returns t c =
-    let n : Node = node_of c.args.node in
+    let n : Node = node_of c.args.node.now in
     subst (λ (l : List Node). Pushes c.args.self c.args.frame.now c.push_steps.new.frame c.push_steps.result l)
     (slot_reached c.args.self.run.now c.in-Some.inner c.args.position c.in-Some.steps.now (n ∷ []) c.in-Some.ensures.run c.in-Some.ensures.view)
     (pushed_back c.args.self c.in-Some.ensures.run refl c.push_steps.ensures)
@@ -656,7 +656,7 @@ push_noted-note-requires-clause-is t c =
     let line : List ℕ = line_of run.root.now in
     let old : List Cursor = c.args.frame.now.found.items in
     let new : List Cursor = c.push_parts.new.frame.found.items in
-    let ns : List Node = nodes (tail_at (table_in run) c.args.position) (node_of c.args.node ∷ []) (node_of run.root.now).tree in
+    let ns : List Node = nodes (tail_at (table_in run) c.args.position) (node_of c.args.node.now ∷ []) (node_of run.root.now).tree in
     listed_known line new c.args.self.most ns c.len-start.result c.len-end.result (is_all c.args.self.most c.if-self-eq-LISTED.true)
     (range_behind line old new ns c.len-start.result c.len-end.result c.in_ok-push_parts.ensures.adds (listed_behind line c.args.self.most c.push_parts.new.frame (record { found = c.args.frame.now.found; sum = c.replace-outer.new.dest; answers = c.args.frame.now.answers; walked = c.args.frame.now.walked }) ns c.if-self-eq-LISTED.true c.in_ok-push_parts.ensures.told) (c.len-start.ensures ∙ c.args.frame.now.found.ok.0) (c.len-end.ensures ∙ c.push_parts.new.frame.found.ok.0))
 
@@ -669,7 +669,7 @@ push_below-returns-then-has t c =
 pub push_below-push_known-requires : goal.push_below-push_known-requires
 push_below-push_known-requires t c =
     let child : Cursor = c.in-Some.child in
-    let further : place_of c.args.node < place_of child = subst (λ (o : Option Cursor). IfSome o (λ d. place_of c.args.node < place_of d)) c.in-Some.is c.loop-next.invariant.place in
+    let further : place_of c.args.node.now < place_of child = subst (λ (o : Option Cursor). IfSome o (λ d. place_of c.args.node.now < place_of d)) c.in-Some.is c.loop-next.invariant.place in
     let short : place_of child + length (subtree (node_of child)) < 4294967296 = after_short child in
     (omega (arith, further, short, c.decreases), record { line = line_of_some _ child _ c.in-Some.is c.loop-next.invariant.line; kept = c.loop-next.invariant.goes.kept })
 
@@ -687,14 +687,14 @@ push_below-loop-next-preserved t c =
     let ss : Segments = tail_at (table_in c.args.self.run.now) c.args.position in
     let child : Cursor = c.in-Some.child in
     let kept = c.loop-next.invariant in
-    let further : place_of c.args.node < place_of child = subst (λ (o : Option Cursor). IfSome o (λ d. place_of c.args.node < place_of d)) c.in-Some.is kept.place in
+    let further : place_of c.args.node.now < place_of child = subst (λ (o : Option Cursor). IfSome o (λ d. place_of c.args.node.now < place_of d)) c.in-Some.is kept.place in
     record {
       goes = others_are (nodes ss (nodes_from c.next_sibling-next.result) u) (ap (λ (l : List Node). nodes ss l u) (sym c.next_sibling-next.ensures.nodes))
           (goes_past c.push_known.new.frame ss u (node_of child ∷ []) (nodes_after child)
           (others_are (nodes ss (nodes_from (Some child)) u) (ap (λ (o : Option Cursor). nodes ss (nodes_from o) u) c.in-Some.is) kept.goes)
           c.in_ok-push_known.ensures);
       line = line_on c.next_sibling-next.result _ _ c.next_sibling-next.ensures.line (line_of_some _ child _ c.in-Some.is kept.line);
-      place = place_behind c.next_sibling-next.result (place_of c.args.node) (place_of child) (length (subtree (node_of child))) further c.next_sibling-next.ensures.place;
+      place = place_behind c.next_sibling-next.result (place_of c.args.node.now) (place_of child) (length (subtree (node_of child))) further c.next_sibling-next.ensures.place;
     }
 
 pub push_below-returns : goal.push_below-returns
@@ -708,7 +708,7 @@ push_step-returns-in-Descendant t c =
     let run : Run = c.args.self.run.now in
     let table : Table = table_in run in
     let u : Tree = (node_of run.root.now).tree in
-    let n : Node = node_of c.args.node in
+    let n : Node = node_of c.args.node.now in
     let ss : Segments = steps_view table c.args.rest.now in
     let all = c.in-Descendant.choices in
     let seen = ap (λ (x : ProgramStep). nodes (step_view table x ss) (n ∷ []) u) c.in-Descendant.is
@@ -730,7 +730,7 @@ push_parts-push_choices-requires t c =
     let same = c.deref.ensures.value ∙ ap (λ (v : Vec Choice Global). v.items) c.in-Some-Descendant-default.choices-is in
     let size = below_size run inner c.args.position all c.deref.result.now rest view same in
     let known = c.in-Some.ensures.known in
-    (omega (arith, size, known, c.decreases), frame_in c.args.node c.args.frame.now c.in-Some.ensures.run c.requires.line c.requires.kept)
+    (omega (arith, size, known, c.decreases), frame_in c.args.node.now c.args.frame.now c.in-Some.ensures.run c.requires.line c.requires.kept)
 
 pub push_parts-returns-in-Some-Descendant-default : goal.push_parts-returns-in-Some-Descendant-default
 push_parts-returns-in-Some-Descendant-default t c =
@@ -742,7 +742,7 @@ push_parts-returns-in-Some-Descendant-default t c =
     let view = c.in-Some.ensures.view ∙ ap (steps_view (table_in inner)) are in
     let same = c.deref.ensures.value ∙ ap (λ (v : Vec Choice Global). v.items) c.in-Some-Descendant-default.choices-is in
     subst (λ (l : List Node). Pushes c.args.self c.args.frame.now c.push_below.new.frame c.push_below.result l)
-    (slot_below run inner c.args.position all c.deref.result.now rest (node_of c.args.node) c.in-Some.ensures.run view same)
+    (slot_below run inner c.args.position all c.deref.result.now rest (node_of c.args.node.now) c.in-Some.ensures.run view same)
     (both_pushed c.push_below.result (pushed_back c.args.self c.in-Some.ensures.run refl c.in_ok-push_choices.ensures) c.push_below.ensures)
 
 -- ---- where no step is left
@@ -751,7 +751,7 @@ pub push_steps-returns : goal.push_steps-returns
 push_steps-returns t c =
     let run : Run = c.args.self.run.now in
     let u : Tree = (node_of run.root.now).tree in
-    let n : Node = node_of c.args.node in
+    let n : Node = node_of c.args.node.now in
     let old : Frame = c.args.frame.now in
     let new : Frame = c.add.new.self in
     let most : ℕ = c.args.self.most in

@@ -87,19 +87,19 @@ decreases-sum l = size_of_segments (steps_view (table_in l.self.run.now) l.steps
 
 -- the steps of a slot are taken from a node, and from those below it: a place is below 2 ^ 32
 abbrev pub decreases-push_below : goal.decreases-push_below
-decreases-push_below l = size_of_segments (tail_at (table_in l.self.run.now) l.position) + 4 * (4294967296 - place_of l.node) + 0 + 34359738368 + 68719476736 * l.self.run.now.known
+decreases-push_below l = size_of_segments (tail_at (table_in l.self.run.now) l.position) + 4 * (4294967296 - place_of l.node.now) + 0 + 34359738368 + 68719476736 * l.self.run.now.known
 
 abbrev pub decreases-push_parts : goal.decreases-push_parts
-decreases-push_parts l = size_of_segments (tail_at (table_in l.self.run.now) l.position) + 4 * (4294967296 - place_of l.node) + 1 + 34359738368 + 68719476736 * l.self.run.now.known
+decreases-push_parts l = size_of_segments (tail_at (table_in l.self.run.now) l.position) + 4 * (4294967296 - place_of l.node.now) + 1 + 34359738368 + 68719476736 * l.self.run.now.known
 
 abbrev pub decreases-push_noted : goal.decreases-push_noted
-decreases-push_noted l = size_of_segments (tail_at (table_in l.self.run.now) l.position) + 4 * (4294967296 - place_of l.node) + 2 + 34359738368 + 68719476736 * l.self.run.now.known
+decreases-push_noted l = size_of_segments (tail_at (table_in l.self.run.now) l.position) + 4 * (4294967296 - place_of l.node.now) + 2 + 34359738368 + 68719476736 * l.self.run.now.known
 
 abbrev pub decreases-push_slot : goal.decreases-push_slot
-decreases-push_slot l = size_of_segments (tail_at (table_in l.self.run.now) l.position) + 4 * (4294967296 - place_of l.node) + 2 + 34359738368 + 68719476736 * l.self.run.now.known
+decreases-push_slot l = size_of_segments (tail_at (table_in l.self.run.now) l.position) + 4 * (4294967296 - place_of l.node.now) + 2 + 34359738368 + 68719476736 * l.self.run.now.known
 
 abbrev pub decreases-push_known : goal.decreases-push_known
-decreases-push_known l = size_of_segments (tail_at (table_in l.self.run.now) l.position) + 4 * (4294967296 - place_of l.node) + 3 + 34359738368 + 68719476736 * l.self.run.now.known
+decreases-push_known l = size_of_segments (tail_at (table_in l.self.run.now) l.position) + 4 * (4294967296 - place_of l.node.now) + 3 + 34359738368 + 68719476736 * l.self.run.now.known
 
 abbrev pub decreases-compare_values : goal.decreases-compare_values
 decreases-compare_values l = size_of_comparable (operand_view (table_in l.self.run.now) l.left.now) + size_of_comparable (operand_view (table_in l.self.run.now) l.right.now) + 5 + 68719476736 * (l.self.run.now.known + 1)
