@@ -1,0 +1,118 @@
+"""Asks questions at n, 2 n and 4 n of what they may cost by, and compares the processor's time and the memory that they take.
+
+    limits_of_cost.py JPQ JPGREP FOLDER
+
+FOLDER is for files. A run of twice the size takes at most 2.3 times the time of the one before, and it ends as well where the program
+may have no more addresses than 60 times its input and its words, twice what it writes, and what it takes by itself: what costs the
+square of its input does neither.
+"""
+import json
+import os
+import resource
+import subprocess
+import sys
+
+PROGRAM, FILTER, FOLDER = sys.argv[1:]
+DOUBLED, LEAST = 2.3, 0.05
+OWN, TIMES = 16 << 20, 60  # bytes
+
+
+class Checks:
+    passed = failed = 0
+
+    def check(self, name, is_right, told):
+        if is_right:
+            self.passed += 1
+            return
+        self.failed += 1
+        print(f"{name}: NOT AS STATED: {told}")
+
+
+def written(name, text):
+    path = os.path.join(FOLDER, name)
+    with open(path, "w", encoding="utf-8") as file:
+        file.write(text)
+    return path
+
+
+def ran(words, most):
+    """The status of a run that may have so many bytes of addresses, its processor seconds, and how many bytes it wrote."""
+    limit = lambda: most and resource.setrlimit(resource.RLIMIT_AS, (most, most))
+    rows = os.path.join(FOLDER, "rows")
+    with open(rows, "wb") as file:
+        run = subprocess.Popen(words, stdin=subprocess.DEVNULL, stdout=file, stderr=subprocess.DEVNULL, preexec_fn=limit)
+        _, status, used = os.wait4(run.pid, 0)
+    return os.waitstatus_to_exitcode(status), used.ru_utime + used.ru_stime, os.path.getsize(rows)
+
+
+def features(count):
+    """One document of many nodes that are asked one by one."""
+    some = [{"pop": number * 7919 % 1000003, "name": f"n{number}", "text": "x" * 200} for number in range(count)]
+    return json.dumps({"pattern": "n.*", "features": some}) + "\n"
+
+
+def wide(count):
+    """The same, with as many members at the root as there are nodes."""
+    return json.dumps({**{f"m{number}": number for number in range(count)}, "features": [{"pop": number} for number in range(count)]}) + "\n"
+
+
+def chains(count, depth):
+    """Objects in one another, each with a name of its own, below as many names."""
+    lines = []
+    for chain in range(count):
+        names = "".join('{"c%dd%d":' % (chain, level) for level in range(depth))
+        lines.append(names + "1" + "}" * depth)
+    return "\n".join(lines) + "\n"
+
+
+EACH = ["-c", "--each", "$.features[*]"]
+# What each asks: its words, by how much it is asked, and the text that it is asked of. A list of values stands in the file `list`.
+SHAPES = {
+    "nodes beside the last one": (5000, features, lambda n: [*EACH, "-w", "@.pop > $.features[-1].pop"]),
+    "nodes, and a descent from the root": (5000, features, lambda n: [*EACH, "-w", "$..zz"]),
+    "nodes, and the root beside itself": (5000, features, lambda n: [*EACH, "-w", "$==$"]),
+    "nodes, and how long the root is": (5000, features, lambda n: [*EACH, "-w", "length($)==@"]),
+    "nodes, and how many nodes there are": (5000, features, lambda n: [*EACH, "-w", "count($..*) > 1 && @.pop > 3"]),
+    "nodes, and a pattern at the root": (5000, features, lambda n: [*EACH, "-w", "match(@.name, $.pattern)"]),
+    "nodes, and a query from the root": (5000, features, lambda n: [*EACH, "-e", "$..zz"]),
+    "nodes, and nodes of a query from the root": (5000, features, lambda n: [*EACH, "-o", "-e", "$.features[?@.pop == 7]"]),
+    "nodes, and a list for the root": (5000, features, lambda n: [*EACH, "--in", "$", os.path.join(FOLDER, "list")]),
+    "nodes, and a column of the root's last": (5000, features, lambda n: ["--csv", *EACH[1:], "-e", "$.features[-1].pop", "-e", "@.pop"]),
+    "nodes, and a column that the root lacks": (5000, wide, lambda n: ["--csv", *EACH[1:], "-e", "$.zz", "-e", "@.pop"]),
+    "nodes, and many columns of the root": (2000, wide, lambda n: ["--csv", *EACH[1:], *(it for k in range(40) for it in ("-e", f"$.m{k}"))]),
+    "nodes, counted by what the root lacks": (5000, wide, lambda n: ["--tally", *EACH[1:], "-e", "$.zz", "-e", "@.pop"]),
+    "nodes, coloured": (5000, features, lambda n: ["--color=always", "-m", "1", *EACH[1:], "-e", "$.features[-1].pop"]),
+    "folds that follow one another": (120, lambda n: chains(60, n), lambda n: ["--paths", "--fold", "2"]),
+    "folds of many names": (320, lambda n: chains(n, 100), lambda n: ["--paths", "--fold", "20"]),
+    "paths of deep objects": (20, lambda n: chains(n, 480), lambda n: ["--paths"]),
+    "paths of wide objects": (5000, lambda n: json.dumps({f"m{k}": {f"n{k}": k} for k in range(n)}) + "\n", lambda n: ["--paths", "--fold", "1000000"]),
+    "steps of a query": (8000, lambda n: "1\n", lambda n: ["-c", "$" + ".*" * n]),
+    "descents of a query": (4000, lambda n: "1\n", lambda n: ["-c", "$" + "..*" * n]),
+    "twenty queries": (1000, lambda n: "1\n", lambda n: ["-c", *(it for _ in range(20) for it in ("-e", "$" + ".*.*" * n))]),
+    "indexes from the end": (1000, lambda n: json.dumps(list(range(10 * n))) + "\n", lambda n: ["-c", "$[" + ",".join(str(-k) for k in range(1, n)) + "]"]),
+    "indexes there and back": (1000, lambda n: json.dumps(list(range(10 * n))) + "\n", lambda n: ["-c", "$[" + ",".join(f"{10 * n - k},{k}" for k in range(1, n // 2)) + "]"]),
+}
+
+
+def main():
+    checks = Checks()
+    written("list", "1\n\"x\"\n")
+    for name, (count, text, words) in SHAPES.items():
+        seconds = []
+        for size in (count, 2 * count, 4 * count):
+            lines = written("lines", text(size))
+            asked = [FILTER, *words(size), lines]
+            status, taken, rows = ran(asked, None)
+            seconds.append(max(taken, LEAST))
+            checks.check(f"{name}, {size}", status in (0, 1), f"status {status}")
+            most = OWN + TIMES * (os.path.getsize(lines) + sum(len(word) for word in asked)) + 2 * rows
+            again = ran(asked, most)[0]
+            checks.check(f"memory of {name}, {size}", again == status, f"status {again} with {most} bytes, and {rows} are written")
+        told = ", ".join(f"{it:.2f}" for it in seconds)
+        for before, after in zip(seconds, seconds[1:]):
+            checks.check(f"seconds of {name}", after <= DOUBLED * before, told)
+    print(f"limits of cost: {checks.passed} passed, {checks.failed} failed, 0 skipped")
+    return 1 if checks.failed else 0
+
+
+sys.exit(main())
