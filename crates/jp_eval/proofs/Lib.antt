@@ -21,5 +21,6 @@ pub mod Following
 pub mod Childless
 mod Literals
 mod Remembered
+pub mod Remembering
 mod Runs
 mod Tables

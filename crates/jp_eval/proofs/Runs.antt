@@ -8,6 +8,8 @@ use Rattle.jp_model.specs.Query.Syntax as syntax
 use Rattle.jp_model.specs.Query.Syntax.{Segments}
 use Rattle.jp_nodes.specs.declared.cursor.Cursor.{Cursor}
 use Rattle.jp_nodes.specs.Cursors.{line_of, node_of}
+use Rattle.jp_nodes.specs.Spots.{Spot}
+use Rattle.jp_nodes.proofs.Cursors.{same_spot}
 use Rattle.jp_eval.specs.Answers.{IsAnswer, IsRunOf, slots_in, table_in, tree_in}
 use Rattle.jp_eval.specs.Frames.{AreKept, IsFrameFor, IsKept, Lends, Pushes, reached}
 use Rattle.jp_eval.specs.Found.{Adds}
@@ -32,16 +34,26 @@ use Rattle.jp_eval.proofs.Nodelists.{below_first}
 use Rattle.jp_eval.proofs.Sizes.{size_of_segments, size_of_selectors}
 use Rattle.jp_eval.proofs.Tables.{get_in_part}
 
--- with the same root, an answer is the same
-answer_in : (run other : Run) → other.root.now ≡ run.root.now → (found : List Cursor) (meant : Option Meant) (answer : Answer) → IsAnswer run found meant answer → IsAnswer other found meant answer
-answer_in run other e found meant (answers.Holds is) h = h ∙ ap (λ (r : Cursor). truth (logical_or_none meant) (node_of r) (node_of r).tree) (sym e)
-answer_in run other e found meant (answers.Value side) h = record { value = h.value ∙ ap (λ (r : Cursor). compared_value (side_or_none meant) (node_of r) (node_of r).tree) (sym e); sound = h.sound }
-answer_in run other e found meant (answers.Pattern read) h = h ∙ ap (λ (r : Cursor). pattern_in (compared_value (side_or_none meant) (node_of r) (node_of r).tree)) (sym e)
-answer_in run other e found meant (answers.Sums sums) h = λ c known line at. subst (λ (r : Cursor). IsKnown (line_of r) found sums.most (nodes (tail_or_none meant) (node_of c ∷ []) (node_of r).tree) known) (sym e) (h c known (line ∙ ap line_of e) at)
+-- the root of a line is one node
+same_root : (run other : Run) → line_of other.root.now ≡ line_of run.root.now → node_of other.root.now ≡ node_of run.root.now
+same_root run other l = ap (λ (s : Spot). s.node) (same_spot other.root.now run.root.now l (other.at_root ∙ sym run.at_root))
+
+-- in the same line an answer is the same
+answer_in : (run other : Run) → line_of other.root.now ≡ line_of run.root.now → (found : List Cursor) (meant : Option Meant) (answer : Answer) → IsAnswer run found meant answer → IsAnswer other found meant answer
+answer_in run other l found meant (answers.Holds is) h = h ∙ ap (λ (r : Node). truth (logical_or_none meant) r r.tree) (sym (same_root run other l))
+answer_in run other l found meant (answers.Value side) h = record { value = h.value ∙ ap (λ (r : Node). compared_value (side_or_none meant) r r.tree) (sym (same_root run other l)); sound = h.sound }
+answer_in run other l found meant (answers.Pattern read) h = h ∙ ap (λ (r : Node). pattern_in (compared_value (side_or_none meant) r r.tree)) (sym (same_root run other l))
+answer_in run other l found meant (answers.Sums sums) h = λ c known line at.
+    subst (λ (text : List ℕ). IsKnown text found sums.most (nodes (tail_or_none meant) (node_of c ∷ []) (node_of other.root.now).tree) known) (sym l)
+    (subst (λ (r : Node). IsKnown (line_of run.root.now) found sums.most (nodes (tail_or_none meant) (node_of c ∷ []) r.tree) known) (sym (same_root run other l)) (h c known (line ∙ l) at))
+
+-- so is what is kept of the same slots
+pub kept_in_line : (run other : Run) → other.slots.now ≡ run.slots.now → line_of other.root.now ≡ line_of run.root.now → (frame : Frame) → IsKept run frame → IsKept other frame
+kept_in_line run other s l frame h position answer is =
+    subst (λ (slots : List Slot). IsAnswer other frame.found.items (slice_get (table_of slots) position) answer) (sym s) (answer_in run other l frame.found.items (slice_get (slots_in run) position) answer (h position answer is))
 
 pub kept_in : (run other : Run) → IsRunOf run other → (frame : Frame) → IsKept run frame → IsKept other frame
-kept_in run other w frame h position answer is =
-    subst (λ (slots : List Slot). IsAnswer other frame.found.items (slice_get (table_of slots) position) answer) (sym w.slots) (answer_in run other w.root frame.found.items (slice_get (slots_in run) position) answer (h position answer is))
+kept_in run other w frame h = kept_in_line run other w.slots (ap line_of w.root) frame h
 
 run_back : (run other : Run) → IsRunOf run other → IsRunOf other run
 run_back run other w = record { slots = sym w.slots; root = sym w.root }

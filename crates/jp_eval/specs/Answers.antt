@@ -1,5 +1,5 @@
 -- Answers to what is asked once.
-use Rattle.std.specs.Prelude.{◌≡◌, ◌∷◌, [], ℕ, Bool, List, Option, Some, option_map, slice_get, take, true}
+use Rattle.std.specs.Prelude.{◌≡◌, ◌∷◌, [], ℕ, Bool, List, Option, Some, option_map, slice_get, take, true, false}
 use Rattle.std.specs.BTreeMap.{get}
 use Rattle.std.specs.Ordering.{nat_cmp}
 use Rattle.jp_model.specs.Json.Tree as tree
@@ -9,7 +9,7 @@ use Rattle.jp_nodes.specs.declared.cursor.Cursor.{Cursor}
 use Rattle.jp_nodes.specs.Cursors.{line_of, node_of, place_of}
 use Rattle.jp_eval.specs.Functions.{pattern_in}
 use Rattle.jp_eval.specs.Programs.{Meant, Table, logical_or_none, side_or_none, table_of, tail_or_none}
-use Rattle.jp_eval.specs.Tallies.{IsKnown}
+use Rattle.jp_eval.specs.Tallies.{IsKnown, is_listed}
 use Rattle.jp_eval.specs.declared.frame.Answer.{Answer}
 use Rattle.jp_eval.specs.declared.frame.Answer.TheVariants as answers
 use Rattle.jp_eval.specs.declared.frame.Run.{Run}
@@ -59,6 +59,11 @@ pub record IsRunOf (run other : Run) : Type 0 where
 -- each sum tells what the segments select from the node at its place
 abbrev pub AreSums : Run → List Cursor → syntax.Segments → Sums → Type 0
 AreSums run found ss sums = (c : Cursor) (known : Known) → line_of c ≡ line_of run.root.now → get nat_cmp sums.known (place_of c) ≡ Some known → IsKnown (line_of run.root.now) found sums.most (nodes ss (node_of c ∷ []) (tree_in run)) known
+
+-- whether an answer says where nodes stand in the list of a frame
+abbrev pub is_placed : Option Answer → Bool
+is_placed (Some (answers.Sums sums)) = is_listed sums.most
+is_placed _ = false
 
 -- the answer is that of a slot that asks this
 abbrev pub IsAnswer : Run → List Cursor → Option Meant → Answer → Type 0

@@ -10,6 +10,7 @@ pub mod Programs
 pub mod Compiled
 pub mod Answers
 pub mod Frames
+pub mod Remembers
 pub mod Questions
 pub mod Indexing
 pub mod Keys

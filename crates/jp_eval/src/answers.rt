@@ -1,18 +1,39 @@
 //! What was answered of what is asked once.
 
-ghost use Rattle.std.specs.Prelude.{◌≡◌, ◌<◌, IfOk, IfSome, MatchOption, option_map, slice_get};
+ghost use Rattle.std.specs.Prelude.{◌≡◌, ◌<◌, false, IfOk, IfSome, MatchOption, Some, option_map, slice_get};
 ghost use Rattle.jp_model.specs.Meaning.Functions.{in_pattern};
 ghost use Rattle.jp_values.specs.Values.{value_view};
-ghost use Rattle.jp_eval.specs.Answers.{IsAnswer, IsRunOf, IsValue, slot_truth, slot_value, table_in};
+ghost use Rattle.jp_eval.specs.Answers.{IsAnswer, IsRunOf, IsValue, is_placed, slot_truth, slot_value, table_in};
 ghost use Rattle.jp_eval.specs.Frames.{IsKept, Lends};
 ghost use Rattle.jp_eval.specs.Functions.{passing};
+ghost use Rattle.jp_eval.specs.declared.frame.Answer.{Answer as FrameAnswer};
 ghost use Rattle.jp_eval.specs.Programs.{found_view, logical_at, no_logical, no_side, no_tail, side_at, slot_view, steps_view, tail_at, test_view};
 
 use crate::Result;
 use crate::frame::{Answer, Frame, Run, Walk};
 use crate::functions::{read_passes, read_pattern};
 use crate::program::{Found, Slot, Step, Test};
+use crate::sums::LISTED;
 use jp_values::Value;
+
+/// Whether an answer says where nodes stand in the list of a frame.
+fn is_placed(answer: &Option<Answer<'_>>) -> bool
+    ensures { result ≡ is_placed answer.now }
+{
+    match answer {
+        Some(Answer::Sums(sums)) => sums.most == LISTED,
+        _ => false,
+    }
+}
+
+/// Forgets an answer that says where nodes stand in the list of a frame.
+pub(crate) fn forget_placed(answer: &mut Option<Answer<'_>>)
+    ensures { (kept : FrameAnswer) → answer.new ≡ Some kept → (answer.old ≡ Some kept) × (is_placed (Some kept) ≡ false) }
+{
+    if is_placed(answer) {
+        *answer = None;
+    }
+}
 
 impl<'p, 'a> Run<'p, 'a> {
     /// Makes room for the answers that the part being answered refers to.

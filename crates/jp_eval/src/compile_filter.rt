@@ -184,6 +184,7 @@ impl Compiler {
 
     /// The test of an expression, that is of a slot where it asks the root alone.
     #[cycle(compile)]
+    #[inline(never)]
     pub(crate) fn compile_test(&mut self, from: Origin, expression: &Logical) -> Result<Box<Test>>
         requires literals { logical_passes (logical_view expression.now) readable ≡ true }
         requires typed { logical_typed (logical_view expression.now) ≡ true }

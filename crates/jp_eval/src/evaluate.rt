@@ -9,6 +9,7 @@ ghost use Rattle.jp_nodes.specs.Cursors.{line_of, place_of, node_of};
 ghost use Rattle.jp_eval.specs.Compiled.{program_view};
 ghost use Rattle.jp_eval.specs.Found.{Adds, found_in};
 ghost use Rattle.jp_children.specs.Found.{AreOf};
+ghost use Rattle.jp_eval.specs.Remembers.{Remembers};
 ghost use Rattle.jp_eval.specs.Tallies.{tally};
 
 use crate::compile::Compiler;
@@ -42,7 +43,7 @@ impl Program {
         Ok(Program { slots, steps })
     }
 
-    /// Adds what the steps select from a node, where `most` nodes decide. No query from the root was answered before.
+    /// Adds what the steps select from a node, where `most` nodes decide. What the frame has answered is not asked again.
     #[inline(always)]
     fn push_up_to<'a>(
         &self,
@@ -54,9 +55,10 @@ impl Program {
     ) -> Result<(), AllocError>
         requires line { line_of start ≡ line_of root }
         requires root { place_of root ≡ 0 }
-        requires answers { frame.old.answers.items ≡ [] }
+        requires remembers { Remembers self.now (line_of root) frame.old }
         ensures adds { Adds (line_of root.entry) frame.old.found.items frame.new.found.items }
         ensures told { OnOk result (tally (line_of root.entry) most frame.new [] ≡ tally (line_of root.entry) most frame.old (nodes (program_view self.now) (node_of start.entry ∷ []) (node_of root.entry).tree)) }
+        ensures remembers { Remembers self.now (line_of root.entry) frame.new }
     {
         let run = Run {
             alloc,
@@ -69,7 +71,7 @@ impl Program {
         walk.push_steps(&start, &self.steps, frame)
     }
 
-    /// Adds what the steps select from a node. No query from the root was answered before.
+    /// Adds what the steps select from a node. What the frame has answered is not asked again.
     #[inline(always)]
     fn push_all<'a>(
         &self,
@@ -80,9 +82,10 @@ impl Program {
     ) -> Result<(), AllocError>
         requires line { line_of start ≡ line_of root }
         requires root { place_of root ≡ 0 }
-        requires answers { frame.old.answers.items ≡ [] }
+        requires remembers { Remembers self.now (line_of root) frame.old }
         ensures adds { Adds (line_of root.entry) frame.old.found.items frame.new.found.items }
         ensures ok { OnOk result (map node_of frame.new.found.items ≡ map node_of frame.old.found.items ++ nodes (program_view self.now) (node_of start.entry ∷ []) (node_of root.entry).tree) }
+        ensures remembers { Remembers self.now (line_of root.entry) frame.new }
     {
         self.push_up_to(LISTED, alloc, start, root, frame)
     }
@@ -102,11 +105,34 @@ impl Program {
         requires root { place_of root ≡ 0 }
         ensures ok { IfOk result (λ some. some ≡ not (length (nodes (program_view self.now) (node_of start.entry ∷ []) (node_of root.entry).tree) == 0)) }
         ensures none { found_in frame.new ≡ [] }
+        ensures remembers { Remembers self.now (line_of root.entry) frame.new }
     {
         frame.forget();
+        self.selects_again(alloc, start, root, frame)
+    }
+
+    /// The same in a frame that remembers what the program asks of the root: as a call of this program in the same line left
+    /// it. What it has answered is not asked again.
+    ///
+    /// If memory is refused, the answer is `AllocError`, and the frame can be lent again.
+    pub fn selects_again<'a>(
+        &self,
+        alloc: Global,
+        start: Cursor<'a>,
+        root: Cursor<'a>,
+        frame: &mut Frame<'a>,
+    ) -> Result<bool, AllocError>
+        requires line { line_of start ≡ line_of root }
+        requires root { place_of root ≡ 0 }
+        requires remembers { Remembers self.now (line_of root) frame.old }
+        ensures ok { IfOk result (λ some. some ≡ not (length (nodes (program_view self.now) (node_of start.entry ∷ []) (node_of root.entry).tree) == 0)) }
+        ensures none { found_in frame.new ≡ [] }
+        ensures remembers { Remembers self.now (line_of root.entry) frame.new }
+    {
+        frame.forget_found();
         let result = self.push_up_to(1, alloc, start, root, frame);
         let some = frame.sum.count > 0;
-        frame.found.clear();
+        frame.forget_found();
         result?;
         Ok(some)
     }
@@ -126,8 +152,31 @@ impl Program {
         requires root { place_of root ≡ 0 }
         ensures ok { OnOk result (map node_of (found_in frame.new) ≡ nodes (program_view self.now) (node_of start.entry ∷ []) (node_of root.entry).tree) }
         ensures lines { AreOf (line_of root.entry) (found_in frame.new) }
+        ensures remembers { Remembers self.now (line_of root.entry) frame.new }
     {
         frame.forget();
+        self.run_again(alloc, start, root, frame)
+    }
+
+    /// The same in a frame that remembers what the program asks of the root: as a call of this program in the same line left
+    /// it. What it has answered is not asked again.
+    ///
+    /// If memory is refused, the answer is `AllocError`, and the frame can be lent again.
+    pub fn run_again<'a>(
+        &self,
+        alloc: Global,
+        start: Cursor<'a>,
+        root: Cursor<'a>,
+        frame: &mut Frame<'a>,
+    ) -> Result<(), AllocError>
+        requires line { line_of start ≡ line_of root }
+        requires root { place_of root ≡ 0 }
+        requires remembers { Remembers self.now (line_of root) frame.old }
+        ensures ok { OnOk result (map node_of (found_in frame.new) ≡ nodes (program_view self.now) (node_of start.entry ∷ []) (node_of root.entry).tree) }
+        ensures lines { AreOf (line_of root.entry) (found_in frame.new) }
+        ensures remembers { Remembers self.now (line_of root.entry) frame.new }
+    {
+        frame.forget_found();
         self.push_all(alloc, start, root, frame)
     }
 

@@ -4,6 +4,7 @@ ghost use Rattle.std.specs.Prelude.{◌≡◌};
 ghost use Rattle.jp_nodes.specs.Cursors.{place_of};
 
 use crate::Result;
+use crate::answers::forget_placed;
 use crate::program::Slot;
 use crate::sums::{LISTED, NONE, Sum, Sums};
 use jp_iregexp::Pattern;
@@ -56,16 +57,22 @@ pub struct Frame<'a> {
 }
 
 impl<'a> Frame<'a> {
-    ghost use Rattle.std.specs.Prelude.{◌≤◌, ◌++◌, ◌∷◌, [], ℕ, List, OnOk, true, false, length, take};
+    ghost use Rattle.std.specs.Prelude.{◌≤◌, ◌++◌, ◌∷◌, [], ℕ, List, OnOk, Some, true, false, length, slice_get, take};
+    ghost use Rattle.jp_eval.specs.Answers.{is_placed};
+    ghost use Rattle.jp_eval.specs.declared.frame.Answer.{Answer};
     ghost use Rattle.jp_model.specs.Meaning.Nodes.{Node};
     ghost use Rattle.jp_nodes.specs.Cursors.{line_of, node_of};
     ghost use Rattle.jp_eval.specs.Found.{Adds, between, found_in};
+    ghost use Rattle.jp_eval.specs.Remembers.{RemembersNothing};
+    ghost use Rattle.jp_eval.specs.declared.program.Slot.{Slot};
+    ghost use Rattle.jp_nodes.specs.declared.cursor.Cursor.{Cursor};
     ghost use Rattle.jp_eval.specs.Tallies.{IsTotal, is_listed, none_in, tally, total_of};
 
     /// With no node, and no room yet.
     pub fn new(alloc: Global) -> Frame<'a>
         ensures found { found_in result ≡ [] }
         ensures answers { result.answers.items ≡ [] }
+        ensures remembers { RemembersNothing result }
     {
         Frame {
             found: Vec::new(alloc),
@@ -82,17 +89,33 @@ impl<'a> Frame<'a> {
         &self.found
     }
 
-    /// Forgets what was found and answered in the line before, and keeps the room.
+    /// Forgets what was found and answered in the line before, and keeps the room. It remembers nothing then, which is right
+    /// for whatever is asked next.
     #[inline(always)]
-    pub(crate) fn forget(&mut self)
-        ensures found { self.new.found.items ≡ [] }
+    pub fn forget(&mut self)
+        ensures found { found_in self.new ≡ [] }
         ensures sum { (line : List ℕ) → total_of line self.new.sum ≡ none_in line }
         ensures answers { self.new.answers.items ≡ [] }
+        ensures remembers { RemembersNothing self.new }
     {
         self.found.clear();
         self.sum = NONE;
         self.answers.clear();
         self.walked.clear();
+    }
+
+    /// Forgets what was found in the line so far, and keeps what was answered, but for where nodes stood in the list.
+    pub(crate) fn forget_found(&mut self)
+        ensures found { found_in self.new ≡ [] }
+        ensures sum { (line : List ℕ) → total_of line self.new.sum ≡ none_in line }
+        ensures answers { (position : ℕ) (answer : Answer) → slice_get self.new.answers.items position ≡ Some (Some answer) → (slice_get self.old.answers.items position ≡ Some (Some answer)) × (is_placed (Some answer) ≡ false) }
+    {
+        self.found.clear();
+        self.sum = NONE;
+        self.walked.clear();
+        for position in 0..self.answers.len() {
+            forget_placed(&mut self.answers[position]);
+        }
     }
 
     /// Whether no more nodes are looked for.

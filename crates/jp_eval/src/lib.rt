@@ -4,6 +4,8 @@
 //!
 //! - `Program::compile`, `Program::run`, `Program::run_in`: a query, compiled once and run for each line
 //! - `Program::selects_in`: whether it selects a node
+//! - `Program::run_again`, `Program::selects_again`, `Predicate::holds_again`: the same, where the frame remembers what was
+//!   asked of the same root
 //! - `Frame`: what lends its room from line to line
 //! - `Predicate::compile`, `Predicate::holds_in`: a logical expression, compiled once and asked of nodes
 //! - `eval_from`, `truth`: the nodelist of segments; whether an expression holds of a node

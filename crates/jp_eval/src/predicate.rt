@@ -7,6 +7,7 @@ ghost use Rattle.jp_syntax.specs.Sound.{logical_has_sound_literals};
 ghost use Rattle.jp_syntax.specs.View.{logical_view};
 ghost use Rattle.jp_nodes.specs.Cursors.{line_of, place_of, node_of};
 ghost use Rattle.jp_eval.specs.Compiled.{predicate_view};
+ghost use Rattle.jp_eval.specs.Remembers.{RemembersTruths};
 
 use crate::compile::Compiler;
 use crate::frame::{Frame, Run, Walk};
@@ -52,9 +53,31 @@ impl Predicate {
     ) -> Result<bool, AllocError>
         requires line { line_of node ≡ line_of root }
         requires root { place_of root ≡ 0 }
-        ensures { IfOk result (λ answer. answer ≡ truth_of (predicate_view self.now) (node_of node.entry) (node_of root.entry).tree) }
+        ensures truth { IfOk result (λ answer. answer ≡ truth_of (predicate_view self.now) (node_of node.entry) (node_of root.entry).tree) }
+        ensures remembers { RemembersTruths self.now (line_of root.entry) frame.new }
     {
         frame.forget();
+        self.holds_again(alloc, node, root, frame)
+    }
+
+    /// The same in a frame that remembers what the expression asks of the root: as a call of this predicate in the same line
+    /// left it. What it has answered is not asked again.
+    ///
+    /// If memory is refused, the answer is `AllocError`, and the frame can be lent again.
+    pub fn holds_again<'a>(
+        &self,
+        alloc: Global,
+        node: Cursor<'a>,
+        root: Cursor<'a>,
+        frame: &mut Frame<'a>,
+    ) -> Result<bool, AllocError>
+        requires line { line_of node ≡ line_of root }
+        requires root { place_of root ≡ 0 }
+        requires remembers { RemembersTruths self.now (line_of root) frame.old }
+        ensures truth { IfOk result (λ answer. answer ≡ truth_of (predicate_view self.now) (node_of node.entry) (node_of root.entry).tree) }
+        ensures remembers { RemembersTruths self.now (line_of root.entry) frame.new }
+    {
+        frame.forget_found();
         let run = Run {
             alloc,
             slots: &self.slots,

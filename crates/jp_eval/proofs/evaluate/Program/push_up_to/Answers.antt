@@ -1,5 +1,5 @@
--- No answer was there, and each slot is known.
-use Rattle.std.proofs.Common.{◌≡◌, ◌∙◌, ◌∷◌, [], ap, ap₂, List, take, Result, Ok, Err}
+-- Each slot is known, and what was answered is right in each run of the program.
+use Rattle.std.proofs.Common.{◌≡◌, ◌∙◌, ◌∷◌, [], ap, ap₂, List, refl, take, Result, Ok, Err}
 use Rattle.std.specs.Prelude.{OnOk}
 use Rattle.jp_model.specs.Json.Tree.{Tree}
 use Rattle.jp_model.specs.Meaning.Nodes.{Node}
@@ -7,10 +7,11 @@ use Rattle.jp_model.specs.Meaning.Selecting.{nodes}
 use Rattle.jp_nodes.specs.Cursors.{line_of, node_of}
 use Rattle.jp_eval.specs.Programs.{Table, table_of, steps_view}
 use Rattle.jp_eval.specs.Tallies.{tally}
+use Rattle.jp_eval.specs.declared.frame.Run.{Run}
 use Rattle.jp_eval.specs.declared.program.Slot.{Slot}
 use Rattle.jp_eval.specs.declared.program.Step.{Step}
-use Rattle.jp_eval.proofs.Answered.{none_in}
 use Rattle.jp_eval.proofs.Goes.{same_tally}
+use Rattle.jp_eval.proofs.Remembering.{run_remembered}
 use Rattle.jp_eval.proofs.Tables.{all_known}
 use Rattle.jp_eval.proofs.evaluate.Program.push_up_to.Goals as goal
 
@@ -19,7 +20,19 @@ on_ok (Ok x) P Q f h = f h
 on_ok (Err e) P Q f h = tt
 
 pub answer_slots-requires : goal.answer_slots-requires
-answer_slots-requires c position answer is = absurd ((none_in c.args.frame.now.answers.items c.requires.answers).none position answer is)
+answer_slots-requires c =
+    let run : Run = record { alloc = c.args.alloc; slots = c.deref.result; known = c.len.result; root = record { ref_ptr = c.args.self.ref_ptr; now = c.args.root }; at_root = c.requires.root } in
+    c.requires.remembers.right run c.deref.ensures.value refl
+
+pub returns-clause-remembers : goal.returns-clause-remembers
+returns-clause-remembers c =
+    let run : Run = record { alloc = c.args.alloc; slots = c.deref.result; known = c.len.result; root = record { ref_ptr = c.args.self.ref_ptr; now = c.args.root }; at_root = c.requires.root } in
+    run_remembered run c.args.self.now.slots.items (line_of c.args.root) c.push_steps.new.frame c.deref.ensures.value refl c.push_steps.ensures.kept
+
+pub returns-in_err-answer_slots-clause-remembers : goal.returns-in_err-answer_slots-clause-remembers
+returns-in_err-answer_slots-clause-remembers c =
+    let run : Run = record { alloc = c.args.alloc; slots = c.deref.result; known = c.len.result; root = record { ref_ptr = c.args.self.ref_ptr; now = c.args.root }; at_root = c.requires.root } in
+    run_remembered run c.args.self.now.slots.items (line_of c.args.root) c.answer_slots.new.frame c.deref.ensures.value refl c.answer_slots.ensures.kept
 
 pub returns-clause-told : goal.returns-clause-told
 returns-clause-told c =

@@ -1,0 +1,6 @@
+-- Nothing is remembered.
+use Rattle.jp_eval.proofs.Remembering.{none_remembered}
+use Rattle.jp_eval.proofs.frame.Frame.forget.Goals as goal
+
+pub returns-clause-remembers : goal.returns-clause-remembers
+returns-clause-remembers c slots root = none_remembered slots root _ c.clear-2.ensures.items
