@@ -1,6 +1,6 @@
 -- A text as a message shows it.
 use Rattle.std.specs.Prelude.{ℕ, ◌+◌, ◌-◌, ◌/◌, ◌%◌, List, [], ◌∷◌, ◌++◌, Bool, ◌==◌, ◌||◌, ◌&&◌, if◌then◌else◌, leb, ltb, length, take, flat_map, codes, nat_eq}
-use Rattle.core.specs.List.{starts_with}
+use Rattle.std.specs.List.{starts_with}
 
 -- a control character (Unicode, general category Cc)
 abbrev pub is_control : ℕ → Bool
