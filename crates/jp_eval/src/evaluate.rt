@@ -10,7 +10,7 @@ ghost use Rattle.jp_eval.specs.Compiled.{program_view};
 ghost use Rattle.jp_eval.specs.Found.{Adds, found_in};
 ghost use Rattle.jp_children.specs.Found.{AreOf};
 ghost use Rattle.jp_eval.specs.Remembers.{Remembers};
-ghost use Rattle.jp_eval.specs.Tallies.{tally};
+ghost use Rattle.jp_eval.specs.Tallies.{none_in, tally, total_of};
 
 use crate::compile::Compiler;
 use crate::frame::{Frame, Run, Walk};
@@ -90,6 +90,30 @@ impl Program {
         self.push_up_to(LISTED, alloc, start, root, frame)
     }
 
+    /// Whether the steps select a node. None was counted before. What the frame has answered is not asked again.
+    #[inline(always)]
+    fn selects_one<'a>(
+        &self,
+        alloc: Global,
+        start: Cursor<'a>,
+        root: Cursor<'a>,
+        frame: &mut Frame<'a>,
+    ) -> Result<bool, AllocError>
+        requires line { line_of start ≡ line_of root }
+        requires root { place_of root ≡ 0 }
+        requires sum { total_of (line_of root) frame.old.sum ≡ none_in (line_of root) }
+        requires remembers { Remembers self.now (line_of root) frame.old }
+        ensures ok { IfOk result (λ some. some ≡ not (length (nodes (program_view self.now) (node_of start.entry ∷ []) (node_of root.entry).tree) == 0)) }
+        ensures none { found_in frame.new ≡ [] }
+        ensures remembers { Remembers self.now (line_of root.entry) frame.new }
+    {
+        let result = self.push_up_to(1, alloc, start, root, frame);
+        let some = frame.sum.count > 0;
+        frame.forget_found();
+        result?;
+        Ok(some)
+    }
+
     /// Whether the nodelist that `run` adds has a node. It stops at the first. The frame lends its room from line to line; what
     /// it had found is forgotten, and it has found nothing then.
     ///
@@ -108,7 +132,7 @@ impl Program {
         ensures remembers { Remembers self.now (line_of root.entry) frame.new }
     {
         frame.forget();
-        self.selects_again(alloc, start, root, frame)
+        self.selects_one(alloc, start, root, frame)
     }
 
     /// The same in a frame that remembers what the program asks of the root: as a call of this program in the same line left
@@ -130,11 +154,7 @@ impl Program {
         ensures remembers { Remembers self.now (line_of root.entry) frame.new }
     {
         frame.forget_found();
-        let result = self.push_up_to(1, alloc, start, root, frame);
-        let some = frame.sum.count > 0;
-        frame.forget_found();
-        result?;
-        Ok(some)
+        self.selects_one(alloc, start, root, frame)
     }
 
     /// Finds the nodelist that `run` adds, in a frame that lends its room from line to line: `found` of it is the nodelist
@@ -155,7 +175,7 @@ impl Program {
         ensures remembers { Remembers self.now (line_of root.entry) frame.new }
     {
         frame.forget();
-        self.run_again(alloc, start, root, frame)
+        self.push_all(alloc, start, root, frame)
     }
 
     /// The same in a frame that remembers what the program asks of the root: as a call of this program in the same line left

@@ -105,6 +105,7 @@ impl<'a> Frame<'a> {
     }
 
     /// Forgets what was found in the line so far, and keeps what was answered, but for where nodes stood in the list.
+    #[inline(always)]
     pub(crate) fn forget_found(&mut self)
         ensures found { found_in self.new ≡ [] }
         ensures sum { (line : List ℕ) → total_of line self.new.sum ≡ none_in line }

@@ -39,6 +39,35 @@ impl Predicate {
         Ok(Predicate { slots, condition })
     }
 
+    /// Whether the expression holds of a node. What the frame has answered is not asked again.
+    #[inline(always)]
+    fn holds<'a>(
+        &self,
+        alloc: Global,
+        node: Cursor<'a>,
+        root: Cursor<'a>,
+        frame: &mut Frame<'a>,
+    ) -> Result<bool, AllocError>
+        requires line { line_of node ≡ line_of root }
+        requires root { place_of root ≡ 0 }
+        requires remembers { RemembersTruths self.now (line_of root) frame.old }
+        ensures truth { IfOk result (λ answer. answer ≡ truth_of (predicate_view self.now) (node_of node.entry) (node_of root.entry).tree) }
+        ensures remembers { RemembersTruths self.now (line_of root.entry) frame.new }
+    {
+        let run = Run {
+            alloc,
+            slots: &self.slots,
+            known: self.slots.len(),
+            root: &root,
+        };
+        let walk = Walk {
+            run: &run,
+            most: LISTED,
+        };
+        walk.answer_slots(frame)?;
+        walk.holds(&node, &self.condition, frame)
+    }
+
     /// Whether the expression holds of a node (RFC 9535, section 2.3.5.2): `@` is the node, and `$` is `root`, the root of the
     /// same line. It stops at the first part that decides, and at the first node of a query that is asked for one. The frame
     /// lends its room from line to line; what was found in it before is forgotten.
@@ -57,7 +86,7 @@ impl Predicate {
         ensures remembers { RemembersTruths self.now (line_of root.entry) frame.new }
     {
         frame.forget();
-        self.holds_again(alloc, node, root, frame)
+        self.holds(alloc, node, root, frame)
     }
 
     /// The same in a frame that remembers what the expression asks of the root: as a call of this predicate in the same line
@@ -78,18 +107,7 @@ impl Predicate {
         ensures remembers { RemembersTruths self.now (line_of root.entry) frame.new }
     {
         frame.forget_found();
-        let run = Run {
-            alloc,
-            slots: &self.slots,
-            known: self.slots.len(),
-            root: &root,
-        };
-        let walk = Walk {
-            run: &run,
-            most: LISTED,
-        };
-        walk.answer_slots(frame)?;
-        walk.holds(&node, &self.condition, frame)
+        self.holds(alloc, node, root, frame)
     }
 }
 
