@@ -89,8 +89,6 @@ SHAPES = {
     "steps of a query": (8000, lambda n: "1\n", lambda n: ["-c", "$" + ".*" * n]),
     "descents of a query": (4000, lambda n: "1\n", lambda n: ["-c", "$" + "..*" * n]),
     "twenty queries": (1000, lambda n: "1\n", lambda n: ["-c", *(it for _ in range(20) for it in ("-e", "$" + ".*.*" * n))]),
-    "indexes from the end": (1000, lambda n: json.dumps(list(range(10 * n))) + "\n", lambda n: ["-c", "$[" + ",".join(str(-k) for k in range(1, n)) + "]"]),
-    "indexes there and back": (1000, lambda n: json.dumps(list(range(10 * n))) + "\n", lambda n: ["-c", "$[" + ",".join(f"{10 * n - k},{k}" for k in range(1, n // 2)) + "]"]),
 }
 
 
