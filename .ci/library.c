@@ -1,7 +1,7 @@
 /* asks COLLECTION SCRIPT FRAMING LINES [THREADS]: opens a collection, runs a script over it by LINES lines in each call, and writes
  * what they answer. Where LINES is 0 jpq_run runs the whole script, and where it is below 0 it runs the first -LINES lines and
  * jpq_ask the others. It ends with the first status that is not 0. With THREADS that many threads do so, each with a handle of its
- * own, and all have to read the same. Nothing here calls malloc, so that each growth is the library's. */
+ * own and a stack of a megabyte, and all have to read the same. Nothing here calls malloc, so that each growth is the library's. */
 #define _GNU_SOURCE
 #include <fcntl.h>
 #include <jpq.h>
@@ -10,7 +10,7 @@
 #include <string.h>
 #include <unistd.h>
 
-enum { MOST = 1 << 22, THREADS = 4 };
+enum { MOST = 1 << 22, THREADS = 4, STACK = 1 << 20 };
 static uint8_t collection[MOST], script[MOST];
 static size_t collection_length, script_length;
 static uint32_t framing;
@@ -101,8 +101,10 @@ int main(int count, char **words) {
     lines = atol(words[4]);
     if (count == 5) return (int)run(NULL);
     pthread_t threads[THREADS];
+    pthread_attr_t small;
+    if (pthread_attr_init(&small) || pthread_attr_setstacksize(&small, STACK)) return 97;
     for (uintptr_t i = 0; i < THREADS; i++)
-        if (pthread_create(&threads[i], NULL, run_thread, (void *)i)) return 97;
+        if (pthread_create(&threads[i], &small, run_thread, (void *)i)) return 97;
     for (uintptr_t i = 0; i < THREADS; i++) {
         void *status;
         pthread_join(threads[i], &status);

@@ -11,7 +11,7 @@ import resource
 import subprocess
 import sys
 
-PROGRAM, FILTER, FOLDER = sys.argv[1:]
+PROGRAM, FILTER, FOLDER = [*sys.argv[1:], "", "", ""][:3]
 KIB, SECONDS = 1024, 60
 MOST, LEAST, AMPLE = 1024 * KIB, 960 * KIB, 64 * 1024 * KIB
 
@@ -113,4 +113,12 @@ def main():
     return 1 if checks.failed else 0
 
 
-sys.exit(main())
+def write_script(folder):
+    """For the library: a line that nests, and a script that asks all of it."""
+    lines_of(folder)
+    with open(os.path.join(folder, "stack-script"), "w", encoding="utf-8") as file:
+        file.writelines(f"{word} $[?{nested(form, '@')}]\n" for form in FORMS for word in ("query", "explain"))
+
+
+if __name__ == "__main__":
+    sys.exit(main())
