@@ -1,6 +1,6 @@
 -- Equal strides, paths and links are the same.
-use Rattle.std.proofs.Common.{◌≡◌, ◌&&◌, ℕ, [], ◌∷◌, Bool, true, ap, ap₂, refl}
-use Rattle.std.proofs.lemmas.Bool.{and_parts, eqb-true, eq-eqb}
+use Rattle.std.proofs.Common.{◌≡◌, ◌∙◌, ◌&&◌, ◌⊎◌, inl, inr, ℕ, [], ◌∷◌, Bool, true, ap, ap₂, eqb, refl, sym}
+use Rattle.std.proofs.lemmas.Bool.{and_parts, cases_eq, eqb-true, eq-eqb, ne_eqb}
 use Rattle.std.proofs.lemmas.Cmp.{nat_list_eq_equiv}
 use Rattle.std.proofs.lemmas.Slice.Eq.{bytes_eq-Decides}
 use Rattle.jp_survey.specs.Paths.{Path, Stride, element, member, others, path_equal, stride_equal}
@@ -87,3 +87,10 @@ link_same k l e =
     let parent = eqb-true k.parent l.parent parts.0 in
     let step = step_same k.step l.step parts.1 in
     ap₂ (λ (p : ℕ) (s : Step). record { parent = p; step = s }) parent step
+
+pub number_symm : (a b : ℕ) → eqb a b ≡ eqb b a
+number_symm a b = by (cases_eq a b)
+  where
+    by : ((a ≡ b) ⊎ (a ≡ b → ⊥)) → eqb a b ≡ eqb b a
+    by (inl e) = eq-eqb a b e ∙ sym (eq-eqb b a (sym e))
+    by (inr ne) = ne_eqb a b ne ∙ sym (ne_eqb b a (λ e. ne (sym e)))

@@ -4,7 +4,8 @@ use Rattle.std.specs.Prelude.{fold, if◌then◌else◌}
 use Rattle.std.proofs.lemmas.Bool.{cases_Bool}
 use Rattle.std.proofs.lemmas.List.{get_or_default}
 use Rattle.std.proofs.lemmas.List.Sums.{fold_push}
-use Rattle.jp_survey.specs.Foldings.{Closed, Moved, folded_by, folded_step, is_over, longer, moved_link}
+use Rattle.jp_survey.specs.Foldings.{Closed, folded_by, longer}
+use Rattle.jp_survey.specs.Movings.{HaveMoved, folded_step, moved_link}
 use Rattle.jp_survey.specs.Paths.{Path, Stride, element, member, others}
 use Rattle.jp_survey.specs.Places.{AreApart, ArePlaces, folds_of, has_path, is_named, is_rest, is_start, link_at, path_at, paths_of, root_link, stride_in}
 use Rattle.jp_survey.specs.declared.links.Link.{Link}
@@ -77,57 +78,57 @@ module _ (names : List (List ℕ)) (links : List Link) (h : ArePlaces names link
 
 -- ---- places that have moved
 
-pub no_start_folded : (fold : ℕ) (links : List Link) (link : Link) → is_start link.step ≡ false → is_start (folded_step fold links link) ≡ false
-no_start_folded fold links link told = by (is_named link.step && is_over fold links link.parent)
+pub no_start_folded : (over : Bool) (step : Step) → is_start step ≡ false → is_start (folded_step over step) ≡ false
+no_start_folded over step told = by (is_named step && over)
   where
-    by : (b : Bool) → is_start (if b then steps.Others else link.step) ≡ false
+    by : (b : Bool) → is_start (if b then steps.Others else step) ≡ false
     by true = refl
     by false = told
 
-module _ (fold : ℕ) (names : List (List ℕ)) (links next : List Link) (h : ArePlaces names links) (g : ArePlaces names next) (places : List ℕ) (moved : Moved fold links next places (length links)) where
+module _ (fold : ℕ) (names : List (List ℕ)) (links told next : List Link) (h : ArePlaces names links) (to : List ℕ) (moved : HaveMoved fold names links told next to) where
   module _ (folds : List Path) (closed : Closed folds (folds_of names next)) where
-    same_stride : (step : Step) (to above : Path) (b : Bool) → (b ≡ true → has_path folds above ≡ true) → (is_named step ≡ true) ⊎ (b ≡ false)
+    same_stride : (step : Step) (above : Path) (b : Bool) → (b ≡ true → has_path folds above ≡ true) → (is_named step ≡ true) ⊎ (b ≡ false)
         → longer folds above (stride_in names (if b then steps.Others else step)) ≡ longer folds above (stride_in names step)
-    same_stride step to above false e c = refl
-    same_stride steps.Start to above true e (inl c) = absurd (cc)
-    same_stride steps.Element to above true e (inl c) = absurd (cc)
-    same_stride (steps.Member n) to above true e (inl c) = sym (shown_folded folds above (get_or names n []) (e refl))
-    same_stride steps.Others to above true e (inl c) = refl
-    same_stride step to above true e (inr c) = absurd (cc)
+    same_stride step above false e c = refl
+    same_stride steps.Start above true e (inl c) = absurd (cc)
+    same_stride steps.Element above true e (inl c) = absurd (cc)
+    same_stride (steps.Member n) above true e (inl c) = sym (shown_folded folds above (get_or names n []) (e refl))
+    same_stride steps.Others above true e (inl c) = refl
+    same_stride step above true e (inr c) = absurd (cc)
 
     both_or : (a b : Bool) → (a ≡ true) ⊎ ((a && b) ≡ false)
     both_or true b = inl refl
     both_or false b = inr refl
 
     same_within : (n k : ℕ) → k < n → k < length links
-        → folded_by folds (path_at (paths_of names next) (get_or places k 0)) ≡ folded_by folds (path_at (paths_of names links) k)
+        → folded_by folds (path_at (paths_of names next) (get_or to k 0)) ≡ folded_by folds (path_at (paths_of names links) k)
     same_within zero k s l = absurd (omega (arith, s))
     same_within (suc n) zero s l =
         ap (λ (j : ℕ). folded_by folds (path_at (paths_of names next) j)) moved.root
-        ∙ ap (folded_by folds) (path_of_root names next g ∙ sym (path_of_root names links h))
+        ∙ ap (folded_by folds) (path_of_root names next moved.places ∙ sym (path_of_root names links h))
     same_within (suc n) (suc k) s l =
-        let link = link_at links (suc k) in let j = get_or places (suc k) 0 in
+        let link = link_at links (suc k) in let j = get_or to (suc k) 0 in
         let at = moved.at (suc k) (omega arith) l in
         let below = h.below (suc k) (omega arith) l in
-        let to = get_or places link.parent 0 in
+        let parent = get_or to link.parent 0 in
         let is = path_of_place names links h (suc k) (omega arith) l in
-        let now = path_of_link names next g j (moved_link fold links places link) at.0 at.1 (no_start_folded fold links link below.1) in
+        let now = path_of_link names next moved.places j (moved_link at.over parent link) at.within at.is (no_start_folded at.over link.step below.1) in
         let above = same_within n link.parent (omega (arith, below, s)) (parent_within names links h (suc k) l) in
-        let b = is_named link.step && is_over fold links link.parent in
+        let b = is_named link.step && at.over in
         ap (folded_by folds) now
-        ∙ (folded_push folds (path_at (paths_of names next) to) (stride_in names (folded_step fold links link))
-        ∙ (ap (λ (p : Path). longer folds p (stride_in names (folded_step fold links link))) above
-        ∙ (same_stride link.step (path_at (paths_of names next) to) (folded_by folds (path_at (paths_of names links) link.parent)) b
-        (λ e. ap (has_path folds) (sym above) ∙ closed (path_at (paths_of names next) to)
-        (is_folded_at names next g j to at.0 (at.1 ∙ ap (λ (c : Bool). record { parent = to; step = if c then steps.Others else link.step }) e)))
-        (both_or (is_named link.step) (is_over fold links link.parent))
+        ∙ (folded_push folds (path_at (paths_of names next) parent) (stride_in names (folded_step at.over link.step))
+        ∙ (ap (λ (p : Path). longer folds p (stride_in names (folded_step at.over link.step))) above
+        ∙ (same_stride link.step (folded_by folds (path_at (paths_of names links) link.parent)) b
+        (λ e. ap (has_path folds) (sym above) ∙ closed (path_at (paths_of names next) parent)
+        (is_folded_at names next moved.places j parent at.within (at.is ∙ ap (λ (c : Bool). record { parent = parent; step = if c then steps.Others else link.step }) e)))
+        (both_or (is_named link.step) at.over)
         ∙ (sym (folded_push folds (path_at (paths_of names links) link.parent) (stride_in names link.step)) ∙ sym (ap (folded_by folds) is)))))
 
-    pub moved_same : (k : ℕ) → k < length links → folded_by folds (path_at (paths_of names next) (get_or places k 0)) ≡ folded_by folds (path_at (paths_of names links) k)
+    pub moved_same : (k : ℕ) → k < length links → folded_by folds (path_at (paths_of names next) (get_or to k 0)) ≡ folded_by folds (path_at (paths_of names links) k)
     moved_same k l = same_within (suc k) k (omega arith) l
 
-    rest_kept : (link : Link) → is_rest link.step ≡ true → folded_step fold links link ≡ steps.Others
-    rest_kept link e = ap (λ (s : Step). if is_named s && is_over fold links link.parent then steps.Others else s) (rest_is link.step e)
+    rest_kept : (over : Bool) (step : Step) → is_rest step ≡ true → folded_step over step ≡ steps.Others
+    rest_kept over step e = ap (λ (s : Step). if is_named s && over then steps.Others else s) (rest_is step e)
 
     pub moved_closed : Closed folds (folds_of names links)
     moved_closed path e =
@@ -138,9 +139,9 @@ module _ (fold : ℕ) (names : List (List ℕ)) (links next : List Link) (h : Ar
         let above = (link_at links k).parent in
         let at : path_at (paths_of names links) above ≡ path = ap (λ (x : Link). path_at (paths_of names links) x.parent) is ∙ found.4.1 in
         let link = moved.at k (some_rest k s rest) s in
-        let there = is_folded_at names next g (get_or places k 0) (get_or places above 0) link.0
-        (link.1 ∙ ap (λ (t : Step). record { parent = get_or places above 0; step = t }) (rest_kept (link_at links k) rest)) in
-        ap (has_path folds) (ap (folded_by folds) (sym at) ∙ sym (moved_same above (parent_within names links h k s))) ∙ closed (path_at (paths_of names next) (get_or places above 0)) there
+        let there = is_folded_at names next moved.places (get_or to k 0) (get_or to above 0) link.within
+        (link.is ∙ ap (λ (t : Step). record { parent = get_or to above 0; step = t }) (rest_kept link.over (link_at links k).step rest)) in
+        ap (has_path folds) (ap (folded_by folds) (sym at) ∙ sym (moved_same above (parent_within names links h k s))) ∙ closed (path_at (paths_of names next) (get_or to above 0)) there
       where
         some_rest : (k : ℕ) → k < length links → is_rest (link_at links k).step ≡ true → 0 < k
         some_rest zero l e = absurd (let no = ap (λ (x : Link). is_rest x.step) h.root in cc)

@@ -1,30 +1,32 @@
 -- Objects stay folded only where they have many names.
-use Rattle.std.proofs.Common.{◌≡◌, ◌∙◌, ◌||◌, ◌&&◌, ℕ, zero, suc, ◌+◌, ◌<◌, ◌≤◌, ◌⊎◌, inl, inr, List, [], ◌∷◌, ◌++◌, length, get_or, Bool, true, false, ap, refl, sym, subst, eqb, ltb, arith, append-nil, append_assoc, length-append}
+use Rattle.std.proofs.Common.{◌≡◌, ◌∙◌, ◌||◌, ◌&&◌, ℕ, zero, suc, ◌+◌, ◌<◌, ◌⊎◌, inl, inr, List, [], ◌∷◌, ◌++◌, length, get_or, Bool, true, false, ap, refl, sym, subst, ltb, arith, append-nil, append_assoc, length-append}
 use Rattle.std.specs.Prelude.{All, fold, if◌then◌else◌}
 use Rattle.std.specs.List.{list_any}
 use Rattle.std.specs.Set.{distinct_count, is_member}
-use Rattle.std.proofs.lemmas.Bool.{and_parts, cases_lt, eq-eqb, eqb-true, lt-ltb, ltb-true, or_cases, or_left, or_right}
-use Rattle.std.proofs.lemmas.List.{get_or_append_left, get_or_default, length_push, same_from_push}
+use Rattle.std.proofs.lemmas.Bool.{and_parts, lt-ltb, ltb-true, or_cases, or_left, or_right}
+use Rattle.std.proofs.lemmas.List.{get_or_default, length_push, same_from_push}
 use Rattle.std.proofs.lemmas.List.Folds.{Any-from_list_any, list_any-append, list_any_at}
 use Rattle.std.proofs.lemmas.List.Sums.{fold-append}
+use Rattle.std.proofs.lemmas.Option.{same_Some}
 use Rattle.std.proofs.lemmas.Slice.Eq.{bytes_eq-Decides}
 use Rattle.jp_model.specs.Characters.{text_equal}
-use Rattle.jp_survey.specs.Foldings.{Closed, HaveMoved, folded_by, folded_step, is_over, longer, moved_link, shown_stride}
+use Rattle.jp_survey.specs.Foldings.{Closed, folded_by, is_over, longer, shown_stride}
 use Rattle.jp_survey.specs.Folds.{has_many_names}
-use Rattle.jp_survey.specs.Justified.{AreFolds, AreReached, IsJustified, WithPath, names_after, rests_after}
+use Rattle.jp_survey.specs.Justified.{AreFolds, IsJustified, WithPath, names_after, rests_after}
+use Rattle.jp_survey.specs.Movings.{HaveMoved, folded_step, moved_link}
 use Rattle.jp_survey.specs.Paths.{Path, Stride, element, member, others, path_equal}
-use Rattle.jp_survey.specs.Places.{AreApart, ArePlaces, folds_of, has_link, has_path, is_named, is_rest, link_at, link_equal, members_of, path_at, paths_of, root_link, stride_in, with_link}
+use Rattle.jp_survey.specs.Places.{AreApart, ArePlaces, IsKnown, folds_of, has_link, has_path, is_named, is_rest, link_at, link_equal, members_of, path_at, paths_of, root_link, stride_in}
 use Rattle.jp_survey.specs.declared.links.Link.{Link}
 use Rattle.jp_survey.specs.declared.links.Step.{Step}
 use Rattle.jp_survey.specs.declared.links.Step.TheVariants as steps
 use Rattle.jp_survey.proofs.After.{GoesOn, any_weaker, goes_on, goes_on_found, goes_on_there, many_more, names_any, names_closed}
 use Rattle.jp_survey.proofs.Distinct.{fewer_names}
-use Rattle.jp_survey.proofs.Equalities.{link_itself, link_same, path_itself, path_same}
+use Rattle.jp_survey.proofs.Equalities.{link_same, path_itself, path_same}
 use Rattle.jp_survey.proofs.Folded.{closed_itself, folded_itself, folded_push, moved_closed, moved_same, no_start_folded, shown_plain}
 use Rattle.jp_survey.proofs.Folds.{length-folded_by, split_at}
-use Rattle.jp_survey.proofs.Members.{IsMember, member_count, member_found, member_names, member_path, member_there}
+use Rattle.jp_survey.proofs.Members.{member_count, member_found, member_names, member_path, member_there}
 use Rattle.jp_survey.proofs.Names.{fold_found, is_folded_at, path_of_link, rest_is}
-use Rattle.jp_survey.proofs.Places.{many_paths, parent_within, path_of_place, path_of_root, same_link}
+use Rattle.jp_survey.proofs.Places.{link_once, many_paths, parent_within, path_of_place, path_of_root, same_link}
 
 -- ---- paths and links that are there
 
@@ -158,128 +160,107 @@ over_or_rest steps.Others over e = inl refl
 over_or_rest (steps.Member n) true e = inr refl
 over_or_rest (steps.Member n) false e = absurd (cc)
 
-module _ (limit : ℕ) (names : List (List ℕ)) (links next : List Link) (to : List ℕ) (h : ArePlaces names links) (moved : HaveMoved limit names links next to) (reached : AreReached next to)
+module _ (limit : ℕ) (names : List (List ℕ)) (links told next : List Link) (to : List ℕ) (h : ArePlaces names links) (moved : HaveMoved limit names links told next to)
     (seen : List Path) (was : IsJustified limit seen (paths_of names links) (folds_of names links)) where
-  -- a place to which one has moved
-  come : (j : ℕ) → 0 < j → j < length next → (k : ℕ) × (0 < k) × (k < length links) × (get_or to k 0 ≡ j)
-  come j some l =
-      let found = Any-from_list_any (eqb j) to (reached j some l) in
-      let is : get_or to found.0 0 ≡ j = get_or_default to found.0 0 found.1 found.2 ∙ (found.3 ∙ sym (eqb-true j found.1 found.4)) in
-      (found.0, not_first found.0 is, (let many = moved.many in omega (arith, many, found.2)), is)
-    where
-      not_first : (k : ℕ) → get_or to k 0 ≡ j → 0 < k
-      not_first zero e = absurd (let first = moved.moved.root in omega (arith, first, e, some))
-      not_first (suc k) e = omega arith
-
   module _ (more : List Path) (closed : Closed more (folds_of names next)) where
     before : Closed more (folds_of names links)
-    before = moved_closed limit names links next h moved.places to moved.moved more closed
+    before = moved_closed limit names links told next h to moved more closed
 
-    same : (k : ℕ) → k < length links → folded_by more (path_at (paths_of names next) (get_or to k 0)) ≡ folded_by more (path_at (paths_of names links) k)
-    same k l = moved_same limit names links next h moved.places to moved.moved more closed k l
+    -- a place to which one above another has moved
+    above_same : (k place : ℕ) → k < length links → get_or to (link_at links k).parent 0 ≡ place
+        → folded_by more (path_at (paths_of names links) (link_at links k).parent) ≡ folded_by more (path_at (paths_of names next) place)
+    above_same k place l is =
+        sym (moved_same limit names links told next h to moved more closed (link_at links k).parent (parent_within names links h k l))
+        ∙ ap (λ (j : ℕ). folded_by more (path_at (paths_of names next) j)) is
 
     -- a member's name comes after its object
-    known_member : (place k : ℕ) (name : List ℕ) → k < length links → IsMember names place name (link_at links k)
-        → is_member text_equal (names_after more (folded_by more (path_at (paths_of names links) place)) seen) name ≡ true
-    known_member place k name l it =
-        let many = many_paths names links h in
-        was.named more before (path_at (paths_of names links) place) name
-        (path_there (paths_of names links) k (path_at (paths_of names links) place ++ member name ∷ []) (omega (arith, many, l)) (member_path names links h place k name l it))
+    known_member : (place k : ℕ) (name : List ℕ) → k < length links → get_or to (link_at links k).parent 0 ≡ place → stride_in names (link_at links k).step ≡ member name
+        → is_member text_equal (names_after more (folded_by more (path_at (paths_of names next) place)) seen) name ≡ true
+    known_member place k name l is it =
+        let many = many_paths names links h in let above = (link_at links k).parent in
+        ap (λ (p : Path). is_member text_equal (names_after more p seen) name) (sym (above_same k place l is))
+        ∙ was.named more before (path_at (paths_of names links) above) name
+        (path_there (paths_of names links) k (path_at (paths_of names links) above ++ member name ∷ []) (omega (arith, many, l)) (member_path names links h above k name l (refl, it)))
 
     named_on : (above : Path) (name : List ℕ) → has_path (paths_of names next) (above ++ member name ∷ []) ≡ true → is_member text_equal (names_after more (folded_by more above) seen) name ≡ true
     named_on above name e =
         let found = path_found (paths_of names next) (above ++ member name ∷ []) e in
         let many = many_paths names next moved.places in
-        let from = come found.0 (not_root found.0 found.2) (omega (arith, many, found.1)) in
-        let k = from.0 in let link = link_at links k in
-        let at = moved.moved.at k from.1 from.2 in
-        let now = path_of_link names next moved.places (get_or to k 0) (moved_link limit links to link) at.0 at.1 (no_start_folded limit links link (h.below k from.1 from.2).1) in
-        let parts = same_from_push above (path_at (paths_of names next) (get_or to link.parent 0)) (member name) (stride_in names (folded_step limit links link))
+        let from = moved.reached found.0 (not_root found.0 found.2) (omega (arith, many, found.1)) in
+        let k = from.0 in let link = link_at links k in let parent = get_or to link.parent 0 in
+        let at = moved.at k from.1 from.2 in
+        let now = path_of_link names next moved.places (get_or to k 0) (moved_link at.over parent link) at.within at.is (no_start_folded at.over link.step (h.below k from.1 from.2).1) in
+        let parts = same_from_push above (path_at (paths_of names next) parent) (member name) (stride_in names (folded_step at.over link.step))
         (sym found.2 ∙ (ap (path_at (paths_of names next)) (sym from.3) ∙ now)) in
-        let step = step_not_others names link.step (is_named link.step && is_over limit links link.parent) name parts.1 in
-        ap (λ (p : Path). is_member text_equal (names_after more p seen) name) (ap (folded_by more) parts.0 ∙ same link.parent (parent_within names links h k from.2))
-        ∙ known_member link.parent k name from.2 (refl, step)
+        let step = step_not_others names link.step (is_named link.step && at.over) name parts.1 in
+        ap (λ (p : Path). is_member text_equal (names_after more (folded_by more p) seen) name) parts.0
+        ∙ known_member parent k name from.2 refl step
       where
         not_root : (j : ℕ) → path_at (paths_of names next) j ≡ above ++ member name ∷ [] → 0 < j
         not_root zero is = absurd (let short = ap length (sym (path_of_root names next moved.places) ∙ is) in let one = length_push above (member name) in omega (arith, short, one))
         not_root (suc j) is = omega arith
 
     -- an object that is folded
-    by_rest : (place k : ℕ) → k < length links → link_at links k ≡ record { parent = place; step = steps.Others }
-        → has_many_names limit (rests_after more (folded_by more (path_at (paths_of names links) place)) seen) ≡ true
-    by_rest place k l is = was.many more before (path_at (paths_of names links) place) (is_folded_at names links h k place l is)
+    by_rest : (place k : ℕ) → k < length links → get_or to (link_at links k).parent 0 ≡ place → is_rest (link_at links k).step ≡ true
+        → has_many_names limit (rests_after more (folded_by more (path_at (paths_of names next) place)) seen) ≡ true
+    by_rest place k l is rest =
+        let above = (link_at links k).parent in
+        ap (λ (p : Path). has_many_names limit (rests_after more p seen)) (sym (above_same k place l is))
+        ∙ was.many more before (path_at (paths_of names links) above)
+        (is_folded_at names links h k above l (same_link (link_at links k) (record { parent = above; step = steps.Others }) refl (rest_is (link_at links k).step rest)))
 
-    -- an object that is to be
-    by_over : (place : ℕ) → is_over limit links place ≡ true → has_many_names limit (rests_after more (folded_by more (path_at (paths_of names links) place)) seen) ≡ true
-    by_over place e = by (or_cases (ltb limit (members_of links place)) (ltb 0 (members_of links place) && has_link links (record { parent = place; step = steps.Others })) e)
+    -- a link that is told below a place
+    told_below : (place j : ℕ) → j < length told → (link_at told j).parent ≡ place → (k : ℕ) × (k < length links) × (get_or to (link_at links k).parent 0 ≡ place) × ((link_at told j).step ≡ (link_at links k).step)
+    told_below place j l is = let it = moved.all_told.each j l in (it.place, it.within, same_Some (get_or to (link_at links it.place).parent 0) (link_at told j).parent it.parent ∙ is, it.step)
+
+    -- an object that is to be folded
+    by_over : (place : ℕ) → is_over limit told place ≡ true → has_many_names limit (rests_after more (folded_by more (path_at (paths_of names next) place)) seen) ≡ true
+    by_over place e = by (or_cases (ltb limit (members_of told place)) (ltb 0 (members_of told place) && has_link told (record { parent = place; step = steps.Others })) e)
       where
-        by : ((ltb limit (members_of links place) ≡ true) ⊎ ((ltb 0 (members_of links place) && has_link links (record { parent = place; step = steps.Others })) ≡ true))
-            → has_many_names limit (rests_after more (folded_by more (path_at (paths_of names links) place)) seen) ≡ true
+        known : (j : ℕ) → j < length told → IsKnown names (link_at told j).step
+        known j l = let it = moved.all_told.each j l in subst (IsKnown names) (sym it.step) (h.known it.place it.within)
+
+        by : ((ltb limit (members_of told place) ≡ true) ⊎ ((ltb 0 (members_of told place) && has_link told (record { parent = place; step = steps.Others })) ≡ true))
+            → has_many_names limit (rests_after more (folded_by more (path_at (paths_of names next) place)) seen) ≡ true
         by (inl f) =
-            let fewer = fewer_names (member_names names place links) (names_after more (folded_by more (path_at (paths_of names links) place)) seen)
-            (λ name there. let found = member_found names place name links there in known_member place found.0 name found.1 found.2) in
-            let count = member_count names links h place in
-            let members = ltb-true limit (members_of links place) f in
-            lt-ltb limit (distinct_count text_equal (names_after more (folded_by more (path_at (paths_of names links) place)) seen)) (omega (arith, fewer, count, members))
+            let fewer = fewer_names (member_names names place told) (names_after more (folded_by more (path_at (paths_of names next) place)) seen)
+            (λ name there. let found = member_found names place name told there in
+            let it = told_below place found.0 found.1 found.2.0 in
+            known_member place it.0 name it.1 it.2 (ap (stride_in names) (sym it.3) ∙ found.2.1)) in
+            let count = member_count names told h.distinct_names known moved.all_told.once place in
+            let members = ltb-true limit (members_of told place) f in
+            lt-ltb limit (distinct_count text_equal (names_after more (folded_by more (path_at (paths_of names next) place)) seen)) (omega (arith, fewer, count, members))
         by (inr f) =
-            let there = and_parts (ltb 0 (members_of links place)) (has_link links (record { parent = place; step = steps.Others })) f in
-            let found = place_link links (record { parent = place; step = steps.Others }) there.1 in
-            by_rest place found.0 found.1 found.2
+            let there = and_parts (ltb 0 (members_of told place)) (has_link told (record { parent = place; step = steps.Others })) f in
+            let found = place_link told (record { parent = place; step = steps.Others }) there.1 in
+            let it = told_below place found.0 found.1 (ap (λ (x : Link). x.parent) found.2) in
+            by_rest place it.0 it.1 it.2 (ap is_rest (sym it.3 ∙ ap (λ (x : Link). x.step) found.2))
 
     many_on : (above : Path) → has_path (folds_of names next) above ≡ true → has_many_names limit (rests_after more (folded_by more above) seen) ≡ true
     many_on above e =
         let found = fold_found (paths_of names next) next above e in
         let is : link_at next found.0 ≡ found.1 = get_or_default next found.0 root_link found.1 found.2 ∙ found.3 in
-        let from = come found.0 (not_root found.0 (ap (λ (x : Link). is_rest x.step) is ∙ found.4.0)) found.2 in
-        let k = from.0 in let link = link_at links k in
-        let at = moved.moved.at k from.1 from.2 in
-        let now : moved_link limit links to link ≡ found.1 = sym at.1 ∙ (ap (link_at next) from.3 ∙ is) in
-        let rest : is_rest (folded_step limit links link) ≡ true = ap (λ (x : Link). is_rest x.step) now ∙ found.4.0 in
-        let path : path_at (paths_of names next) (get_or to link.parent 0) ≡ above = ap (λ (x : Link). path_at (paths_of names next) x.parent) now ∙ found.4.1 in
-        ap (λ (p : Path). has_many_names limit (rests_after more p seen)) (ap (folded_by more) (sym path) ∙ same link.parent (parent_within names links h k from.2))
-        ∙ by k from.2 (over_or_rest link.step (is_over limit links link.parent) rest)
+        let from = moved.reached found.0 (not_root found.0 (ap (λ (x : Link). is_rest x.step) is ∙ found.4.0)) found.2 in
+        let k = from.0 in let link = link_at links k in let parent = get_or to link.parent 0 in
+        let at = moved.at k from.1 from.2 in
+        let now : moved_link at.over parent link ≡ found.1 = sym at.is ∙ (ap (link_at next) from.3 ∙ is) in
+        let rest : is_rest (folded_step at.over link.step) ≡ true = ap (λ (x : Link). is_rest x.step) now ∙ found.4.0 in
+        let path : path_at (paths_of names next) parent ≡ above = ap (λ (x : Link). path_at (paths_of names next) x.parent) now ∙ found.4.1 in
+        ap (λ (p : Path). has_many_names limit (rests_after more (folded_by more p) seen)) (sym path)
+        ∙ by k from.2 at.over (over_or_rest link.step at.over rest) at.since
       where
         not_root : (j : ℕ) → is_rest (link_at next j).step ≡ true → 0 < j
         not_root zero e = absurd (let no = ap (λ (x : Link). is_rest x.step) moved.places.root in cc)
         not_root (suc j) e = omega arith
 
-        by : (k : ℕ) → k < length links → ((is_rest (link_at links k).step ≡ true) ⊎ (is_over limit links (link_at links k).parent ≡ true))
-            → has_many_names limit (rests_after more (folded_by more (path_at (paths_of names links) (link_at links k).parent)) seen) ≡ true
-        by k l (inl f) = by_rest (link_at links k).parent k l (same_link (link_at links k) (record { parent = (link_at links k).parent; step = steps.Others }) refl (rest_is (link_at links k).step f))
-        by k l (inr f) = by_over (link_at links k).parent f
+        by : (k : ℕ) → k < length links → (over : Bool) → ((is_rest (link_at links k).step ≡ true) ⊎ (over ≡ true)) → (over ≡ true → is_over limit told (get_or to (link_at links k).parent 0) ≡ true)
+            → has_many_names limit (rests_after more (folded_by more (path_at (paths_of names next) (get_or to (link_at links k).parent 0))) seen) ≡ true
+        by k l over (inl f) since = by_rest (get_or to (link_at links k).parent 0) k l refl f
+        by k l over (inr f) since = by_over (get_or to (link_at links k).parent 0) (since f)
 
   -- objects that are folded have many names
   pub justified_moved : IsJustified limit seen (paths_of names next) (folds_of names next)
   justified_moved = record { named = named_on; many = many_on }
-
--- ---- the places to which others move
-
-pub reached_root : (next : List Link) (to : List ℕ) (place : ℕ) → AreReached next to → AreReached next (to ++ place ∷ [])
-reached_root next to place h j some l = list_any-append (eqb j) to (place ∷ []) ∙ or_left (list_any (eqb j) to) (eqb j place || false) (h j some l)
-
-pub reached_more : (next : List Link) (to : List ℕ) (link : Link) (place : ℕ) → AreReached next to → place < length (with_link next link) → link_at (with_link next link) place ≡ link
-    → AreReached (with_link next link) (to ++ place ∷ [])
-reached_more next to link place h within at = by (has_link next link) refl within at
-  where
-    by : (b : Bool) → has_link next link ≡ b → place < length (if b then next else next ++ link ∷ []) → link_at (if b then next else next ++ link ∷ []) place ≡ link
-        → AreReached (if b then next else next ++ link ∷ []) (to ++ place ∷ [])
-    by true e l is = reached_root next to place h
-    by false e l is = λ j some s. last j some s (cases_lt j (length next))
-      where
-        at_end : place ≡ length next
-        at_end = ends (cases_lt place (length next))
-          where
-            ends : ((place < length next) ⊎ (length next ≤ place)) → place ≡ length next
-            ends (inl s) =
-                let there = list_any_at (link_equal link) next place root_link s (ap (link_equal link) (sym (get_or_append_left next (link ∷ []) root_link place s) ∙ is) ∙ link_itself link) in
-                absurd (cc (there, e))
-            ends (inr s) = let one = length_push next link in omega (arith, one, l, s)
-
-        last : (j : ℕ) → 0 < j → j < length (next ++ link ∷ []) → ((j < length next) ⊎ (length next ≤ j)) → list_any (eqb j) (to ++ place ∷ []) ≡ true
-        last j some s (inl t) = reached_root next to place h j some t
-        last j some s (inr t) =
-            let one = length_push next link in let end = at_end in
-            list_any-append (eqb j) to (place ∷ []) ∙ or_right (list_any (eqb j) to) (eqb j place || false) (or_left (eqb j place) false (eq-eqb j place (omega (arith, one, s, t, end))))
 
 -- ---- in the end
 
@@ -373,7 +354,7 @@ module _ (names : List (List ℕ)) (links : List Link) (h : ArePlaces names link
           let parts = parent_path at.0 other at.1 at.2 in
           member_there names place other links at.0 at.1
           (h.distinct_paths (link_at links at.0).parent place (parent_within names links h at.0 at.1) within (parts.0 ∙ sym top.0), parts.1)) in
-          let members = member_count names links h place in
+          let members = member_count names links h.distinct_names h.known (link_once names links h) place in
           let over = or_left (ltb limit (members_of links place)) (ltb 0 (members_of links place) && has_link links (record { parent = place; step = steps.Others }))
           (lt-ltb limit (members_of links place) (omega (arith, count, fewer, members))) in
           let not_over = none place within in

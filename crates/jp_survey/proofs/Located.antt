@@ -3,11 +3,10 @@ use Rattle.std.proofs.Common.{◌≡◌, ◌≢◌, ◌∙◌, ◌⊎◌, inl, i
 use Rattle.std.specs.Prelude.{◌==◌, ◌^◌, IfOk, Option, Result, if◌then◌else◌, ltb, nat_lt, not}
 use Rattle.std.specs.Borrow.{Bor}
 use Rattle.std.specs.Str.{all_scalars}
-use Rattle.std.specs.List.{list_all}
 use lib.Utf8.{encode, encodes}
 use Rattle.std.specs.Fmt.{signed_decimal}
 use Rattle.std.proofs.Math.Seq.{drop-append-add, take-append_seam}
-use Rattle.std.proofs.lemmas.Bool.{and_from, and_parts, cases_lt, cond_both, eq-eqb, false_from_ne_true, ltb-true, ne_eqb}
+use Rattle.std.proofs.lemmas.Bool.{and_from, cases_lt, cond_both, eq-eqb, false_from_ne_true, ltb-true, ne_eqb}
 use Rattle.std.proofs.lemmas.Bool.Decides.{nat_tests}
 use Rattle.std.proofs.lemmas.Fmt.{IsAscii-decimal, decimal_nonempty, digits_decimal}
 use Rattle.std.proofs.lemmas.List.{get_or-append_right, get_or_append_left}
@@ -16,12 +15,12 @@ use Rattle.std.proofs.lemmas.Option.{same_Some}
 use Rattle.std.proofs.lemmas.Str.{encode_ascii, encodes-append, encodes-IsAscii}
 use Rattle.memchr.specs.Find.{IsFirstByte, is_byte}
 use Rattle.jp_laws.proofs.PathTexts.{name_scalar_by}
-use Rattle.jp_laws.proofs.Reached.{Each, each_append}
+use Rattle.jp_laws.proofs.Reached.{Each}
 use Rattle.jp_laws.proofs.RowFields.{High, path_high}
 use Rattle.jp_model.proofs.Digits.{digits_model}
 use Rattle.jp_model.specs.Characters.{is_digit}
 use Rattle.jp_model.specs.Json.Numbers.{AreDigits}
-use Rattle.jp_model.specs.Meaning.Paths.{hex_digit, name_scalar, path_text, step_text, steps_text}
+use Rattle.jp_model.specs.Meaning.Paths.{hex_digit, name_scalar, path_text, step_text}
 use Rattle.jp_model.specs.Steps.{Step, index_step, name_step}
 use Rattle.jp_rows.specs.Names.{name_text}
 use Rattle.jp_survey.specs.Located.{IsReadStep, byte_in, control_in, hex_value, stands_before}

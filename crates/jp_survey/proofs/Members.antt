@@ -1,5 +1,5 @@
 -- The names of the members of a place.
-use Rattle.std.proofs.Common.{◌≡◌, ◌∙◌, ℕ, suc, ◌<◌, ◌⊎◌, inl, inr, List, [], ◌∷◌, ◌++◌, length, Bool, true, false, ◌&&◌, ap, ap₂, refl, sym, cond, eqb, arith}
+use Rattle.std.proofs.Common.{◌≡◌, ◌∙◌, ℕ, suc, ◌<◌, ◌⊎◌, inl, inr, List, [], ◌∷◌, ◌++◌, length, get_or, Bool, true, false, ◌&&◌, ap, ap₂, refl, sym, cond, eqb, arith}
 use Rattle.std.specs.Prelude.{flat_map, sum_by, if◌then◌else◌}
 use Rattle.std.specs.List.{IsDistinct}
 use Rattle.std.specs.Set.{distinct_count, is_member}
@@ -11,13 +11,13 @@ use Rattle.std.proofs.lemmas.Slice.Eq.{bytes_eq-Decides}
 use Rattle.jp_model.specs.Characters.{text_equal}
 use Rattle.jp_survey.specs.Folds.{first_name}
 use Rattle.jp_survey.specs.Paths.{Stride, element, member, others}
-use Rattle.jp_survey.specs.Places.{ArePlaces, is_member_of, is_named, is_start, link_at, members_of, path_at, paths_of, root_link, stride_in}
+use Rattle.jp_survey.specs.Places.{ArePlaces, IsKnown, is_member_of, is_named, is_start, link_at, members_of, path_at, paths_of, root_link, stride_in}
 use Rattle.jp_survey.specs.declared.links.Link.{Link}
 use Rattle.jp_survey.specs.declared.links.Step.{Step}
 use Rattle.jp_survey.specs.declared.links.Step.TheVariants as steps
 use Rattle.jp_survey.proofs.Distinct.{any_flat, as_many, none_of}
 use Rattle.jp_survey.proofs.Names.{positive}
-use Rattle.jp_survey.proofs.Places.{path_of_place}
+use Rattle.jp_survey.proofs.Places.{path_of_place, same_link, same_step}
 
 -- the name of a place, where it is a member of another by name
 abbrev pub name_at : (names : List (List ℕ)) → (place : ℕ) → Link → List (List ℕ)
@@ -99,25 +99,27 @@ each_once names place (link ∷ links) once =
             let same = once 0 (suc found.0) name (omega arith) (omega (arith, found.1)) (eqb-true link.parent place p, q) found.2 in
             omega (arith, same)
 
-module _ (names : List (List ℕ)) (links : List Link) (h : ArePlaces names links) (place : ℕ) where
-  told : (k : ℕ) → (name : List ℕ) → IsMember names place name (link_at links k) → is_start (link_at links k).step ≡ false
-  told k name it = by (link_at links k).step it.1
-    where
-      by : (step : Step) → stride_in names step ≡ member name → is_start step ≡ false
-      by steps.Start e = absurd (cc)
-      by steps.Element e = refl
-      by (steps.Member n) e = refl
-      by steps.Others e = refl
+-- a member by name is no root
+not_root : (names : List (List ℕ)) (step : Step) (name : List ℕ) → stride_in names step ≡ member name → is_start step ≡ false
+not_root names steps.Start name e = absurd (cc)
+not_root names steps.Element name e = refl
+not_root names (steps.Member n) name e = refl
+not_root names steps.Others name e = refl
 
-  pub member_path : (k : ℕ) (name : List ℕ) → k < length links → IsMember names place name (link_at links k)
-      → path_at (paths_of names links) k ≡ path_at (paths_of names links) place ++ member name ∷ []
-  member_path k name l it =
-      path_of_place names links h k (positive names links h k l (told k name it)) l
-      ∙ ap₂ (λ (p : ℕ) (s : Stride). path_at (paths_of names links) p ++ s ∷ []) it.0 it.1
+pub member_path : (names : List (List ℕ)) (links : List Link) → ArePlaces names links → (place k : ℕ) (name : List ℕ) → k < length links → IsMember names place name (link_at links k)
+    → path_at (paths_of names links) k ≡ path_at (paths_of names links) place ++ member name ∷ []
+member_path names links h place k name l it =
+    path_of_place names links h k (positive names links h k l (not_root names (link_at links k).step name it.1)) l
+    ∙ ap₂ (λ (p : ℕ) (s : Stride). path_at (paths_of names links) p ++ s ∷ []) it.0 it.1
 
-  -- as many different names as members
-  pub member_count : distinct_count text_equal (member_names names place links) ≡ members_of links place
-  member_count =
-      as_many (member_names names place links)
-      (each_once names place links (λ j k name s t a b. h.distinct_paths j k s t (member_path j name s a ∙ sym (member_path k name t b))))
-      ∙ length-member_names names place links
+-- as many different names as members, where links of known names differ
+pub member_count : (names : List (List ℕ)) (links : List Link) → ((j k : ℕ) → j < length names → k < length names → get_or names j [] ≡ get_or names k [] → j ≡ k)
+    → ((k : ℕ) → k < length links → IsKnown names (link_at links k).step) → ((j k : ℕ) → j < length links → k < length links → link_at links j ≡ link_at links k → j ≡ k)
+    → (place : ℕ) → distinct_count text_equal (member_names names place links) ≡ members_of links place
+member_count names links once known distinct place =
+    as_many (member_names names place links)
+    (each_once names place links (λ j k name s t a b.
+    let not_j = not_root names (link_at links j).step name a.1 in let not_k = not_root names (link_at links k).step name b.1 in
+    let step = same_step names once (link_at links j).step (link_at links k).step (known j s) (known k t) not_j not_k (a.1 ∙ sym b.1) in
+    distinct j k s t (same_link (link_at links j) (link_at links k) (a.0 ∙ sym b.0) step)))
+    ∙ length-member_names names place links

@@ -97,7 +97,7 @@ once_each (place ∷ paths) (c ∷ more) d path kind =
 -- ---- what entries have
 
 -- a fact of the entries of a place, kind by kind
-each_kind : (P : Entry → Type 0) (place : Path) (c : PlaceCounts) → ((kind : NodeKind) → P (counted place kind (count_of c kind))) → All P (entries_of place c)
+pub each_kind : (P : Entry → Type 0) (place : Path) (c : PlaceCounts) → ((kind : NodeKind) → P (counted place kind (count_of c kind))) → All P (entries_of place c)
 each_kind P place c h =
     let n = entry_at place kinds.Null c.null in let b = entry_at place kinds.Boolean c.boolean in let d = entry_at place kinds.Number c.number in
     let s = entry_at place kinds.String c.string in let a = entry_at place kinds.Array c.array in let o = entry_at place kinds.Object c.object in

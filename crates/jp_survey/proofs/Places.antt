@@ -92,6 +92,10 @@ module _ (names : List (List ℕ)) (links : List Link) (h : ArePlaces names link
       → path_at (paths_of names links) k ≡ path_at (paths_of names links) (link_at links k).parent ++ stride_in names (link_at links k).step ∷ []
   path_of_place k some l = equation k l ∙ no_start names (paths_of names links) (link_at links k) (h.below k some l).1
 
+  -- two places differ in their links
+  pub link_once : (j k : ℕ) → j < length links → k < length links → link_at links j ≡ link_at links k → j ≡ k
+  link_once j k s t e = h.distinct_paths j k s t (equation j s ∙ (ap (path_below names (paths_of names links)) e ∙ sym (equation k t)))
+
   pub parent_within : (k : ℕ) → k < length links → (link_at links k).parent < length links
   parent_within zero l = let first : (link_at links 0).parent ≡ 0 = ap (λ (k : Link). k.parent) h.root in omega (arith, first, l)
   parent_within (suc k) l = let below = (h.below (suc k) (omega arith) l).0 in omega (arith, below, l)

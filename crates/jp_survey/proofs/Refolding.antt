@@ -7,7 +7,8 @@ use Rattle.std.proofs.lemmas.List.{get_or-map, length-map}
 use Rattle.std.proofs.lemmas.List.Folds.{list_any-append}
 use Rattle.std.proofs.lemmas.List.Sums.{sum_by-cons}
 use Rattle.jp_survey.specs.Counts.{Counted, Joined, lines_of, nodes_of, passes, sum_where, sums_of}
-use Rattle.jp_survey.specs.Foldings.{Closed, HaveMoved, Refolds, folded_by, longer}
+use Rattle.jp_survey.specs.Foldings.{Closed, Refolds, folded_by, longer}
+use Rattle.jp_survey.specs.Movings.{HaveMoved}
 use Rattle.jp_survey.specs.Paths.{Line, Mark, Path, Stride, element, marks_of, member, others, path_equal, same_kind}
 use Rattle.jp_survey.specs.Places.{AreApart, ArePlaces, folds_of, has_path, path_at, paths_of}
 use Rattle.jp_survey.specs.Surveys.{is_folded, is_others, lines_at, marks_in}
@@ -20,11 +21,11 @@ use Rattle.jp_survey.proofs.Joining.{sum_alike}
 use Rattle.jp_survey.proofs.Places.{many_paths}
 
 -- places that have moved, and whose counts have joined
-pub refolds_from : (fold : ℕ) (names : List (List ℕ)) (links next : List Link) (to : List ℕ) (old new : List PlaceCounts) → ArePlaces names links → HaveMoved fold names links next to
+pub refolds_from : (fold : ℕ) (names : List (List ℕ)) (links told next : List Link) (to : List ℕ) (old new : List PlaceCounts) → ArePlaces names links → HaveMoved fold names links told next to
     → Joined old new to (length old) → length old ≡ length links → length new ≡ length next → Refolds names links old next new
-refolds_from fold names links next to old new h moved joined before after = record {
+refolds_from fold names links told next to old new h moved joined before after = record {
   places = moved.places;
-  closed = λ folds closed. moved_closed fold names links next h moved.places to moved.moved folds closed;
+  closed = λ folds closed. moved_closed fold names links told next h to moved folds closed;
   sums = λ folds closed lines kind test.
       let many = many_paths names links h in let more = many_paths names next moved.places in
       let all = joined.sums lines kind (λ (path : Path). test (folded_by folds path)) (paths_of names next) (omega (arith, more, after)) in
@@ -37,16 +38,8 @@ refolds_from fold names links next to old new h moved joined before after = reco
       (omega (arith, mapped, moved.many, many))
       (λ k s. let l : k < length to = omega (arith, mapped, s) in
       ap test (ap (folded_by folds) (get_or-map (path_at (paths_of names next)) to k 0 [] l)
-      ∙ moved_same fold names links next h moved.places to moved.moved folds closed k (omega (arith, moved.many, l)))));
+      ∙ moved_same fold names links told next h to moved folds closed k (omega (arith, moved.many, l)))));
   last = joined.last;
-}
-
-pub refolds_on : (names : List (List ℕ)) (a b c : List Link) (x y z : List PlaceCounts) → Refolds names a x b y → Refolds names b y c z → Refolds names a x c z
-refolds_on names a b c x y z g h = record {
-  places = h.places;
-  closed = λ folds closed. g.closed folds (h.closed folds closed);
-  sums = λ folds closed lines kind test. h.sums folds closed lines kind test ∙ g.sums folds (h.closed folds closed) lines kind test;
-  last = h.last;
 }
 
 -- ---- a path in which no object is folded

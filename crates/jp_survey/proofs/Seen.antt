@@ -1,6 +1,6 @@
 -- A tree folds the objects after which the paths of texts go on by many names.
 use Rattle.std.proofs.Common.{◌≡◌, ◌∙◌, ◌&&◌, ◌||◌, ℕ, zero, suc, ◌+◌, ◌<◌, ◌⊎◌, inl, inr, List, [], ◌∷◌, ◌++◌, length, get_or, map, Bool, true, false, cond, ap, ap₂, refl, sym, subst, arith, append-nil}
-use Rattle.std.specs.Prelude.{All, Err, IfOk, Ok, Result, count_by, flat_map, if◌then◌else◌}
+use Rattle.std.specs.Prelude.{All, count_by, flat_map, if◌then◌else◌}
 use Rattle.std.specs.List.{list_any}
 use Rattle.std.proofs.lemmas.Bool.{and_from, cases_Bool, eq-eqb, or_parts}
 use Rattle.std.proofs.lemmas.List.{get_or-map, length-map, map-append}
@@ -9,24 +9,22 @@ use Rattle.std.proofs.lemmas.List.Sums.{sum_by-append, sum_by-cons}
 use Rattle.jp_model.specs.Meaning.Nodes.{Node, subtree}
 use Rattle.jp_model.specs.Steps.{Step, name_step, index_step}
 use Rattle.jp_survey.specs.Counts.{Counted, nodes_of, passes, sum_where}
-use Rattle.jp_survey.specs.Foldings.{Refolds, folded_by, is_over}
+use Rattle.jp_survey.specs.Foldings.{folded_by, is_over}
 use Rattle.jp_survey.specs.Folds.{folded}
-use Rattle.jp_survey.specs.Justified.{AreFolds, IsJustified, StayJustified, WithPath}
+use Rattle.jp_survey.specs.Justified.{AreFolds, IsJustified, WithPath}
 use Rattle.jp_survey.specs.Paths.{Line, Mark, Path, kind_number, mark_of, marks_of, path_equal, same_kind, strides_of}
 use Rattle.jp_survey.specs.Places.{AreApart, ArePlaces, folds_of, has_link, has_path, names_in, path_at, paths_of, root_link, stride_in, with_link}
 use Rattle.jp_survey.specs.Seen.{AreJustified, AreJustifiedBeside, HasSeen, paths_beside}
 use Rattle.jp_survey.specs.Surveys.{is_at, is_folded, marks_in, paths_in}
-use Rattle.jp_survey.specs.Trees.{HasCounted, IsTree, Leads, links_of, names_of, tree_folds, tree_paths}
+use Rattle.jp_survey.specs.Trees.{HasCounted, IsTree, folded_of, Leads, links_of, names_of, tree_folds, tree_paths}
 use Rattle.jp_survey.specs.declared.count.PlaceCounts.{PlaceCounts}
 use Rattle.jp_survey.specs.declared.kind.NodeKind.TheVariants as kinds
-use Rattle.jp_survey.specs.declared.folding.Folded.{Folded}
 use Rattle.jp_survey.specs.declared.links.Link.{Link}
 use Rattle.jp_survey.specs.declared.tree.Tree.{Tree}
 use Rattle.jp_survey.proofs.Equalities.{path_itself}
 use Rattle.jp_survey.proofs.Folds.{folded_is}
 use Rattle.jp_survey.proofs.Justified.{are_folds, justified_root}
 use Rattle.jp_survey.proofs.Places.{grown_paths}
-use Rattle.jp_survey.proofs.Refolding.{refolded_counted}
 
 -- ---- a tree and the paths that were seen
 
@@ -175,16 +173,11 @@ module _ (limit : ℕ) (names : List (List ℕ)) (links : List Link) (h : ArePla
       lines newest (paths_of names links) places counted
 
 -- and so they are once no object of a tree is to be folded any more
-pub folded_seen : {E : Type 0} (r : Result Folded E) (limit : ℕ) (lines : List Line) (tree : Tree) → HasSeen limit lines tree
-    → IfOk r (λ folded. Refolds (names_of tree) (links_of tree) tree.counts.places.items folded.links.links.keys folded.counts.places.items)
-    → IfOk r (λ folded. AreApart (names_of tree) folded.links.links.keys) → IfOk r (λ folded. StayJustified limit (names_of tree) (links_of tree) folded.links.links.keys)
-    → IfOk r (λ folded. (place : ℕ) → place < length folded.links.links.keys → is_over limit folded.links.links.keys place ≡ false) → IfOk r (HasCounted limit (names_of tree) lines)
-folded_seen (Ok folded) limit lines tree seen refolds apart justified none =
-    let names = names_of tree in let links = links_of tree in let next = folded.links.links.keys in let counts = folded.counts.places.items in
-    let counted = refolded_counted names links next tree.counts.places.items counts lines tree.lines refolds apart seen.counted in
-    record {
-      places = refolds.places;
-      newest = tree.lines;
-      counted = counted_folded limit names next refolds.places apart none lines tree.lines counts counted (justified (paths_in lines) seen.justified);
-    }
-folded_seen (Err e) limit lines tree seen refolds apart justified none = refolds
+pub seen_counted : (limit : ℕ) (lines : List Line) (tree : Tree) → IsTree tree → HasSeen limit lines tree → ((place : ℕ) → place < length (links_of tree) → is_over tree.fold (links_of tree) place ≡ false)
+    → HasCounted limit (names_of tree) lines (folded_of tree)
+seen_counted limit lines tree is seen none = record {
+  places = is.places;
+  newest = tree.lines;
+  counted = counted_folded limit (names_of tree) (links_of tree) is.places is.apart (subst (λ (n : ℕ). (place : ℕ) → place < length (links_of tree) → is_over n (links_of tree) place ≡ false) seen.limit none) lines tree.lines
+      tree.counts.places.items seen.counted seen.justified;
+}

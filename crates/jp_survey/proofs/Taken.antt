@@ -1,5 +1,5 @@
 -- The rows that are taken, one after another, and the lines that they tell of.
-use Rattle.std.proofs.Common.{◌≡◌, ◌∙◌, ◌&&◌, ℕ, ◌<◌, List, [], ◌∷◌, ◌++◌, Bool, true, false, Some, None, IfOk, OnOk, length, map, decimal, ap, refl, sym, subst, arith, append-nil, append_assoc}
+use Rattle.std.proofs.Common.{◌≡◌, ◌∙◌, ◌&&◌, ℕ, ◌<◌, List, [], ◌∷◌, ◌++◌, Bool, true, false, Some, None, OnOk, length, map, decimal, ap, refl, sym, subst, arith, append-nil, append_assoc}
 use Rattle.std.specs.Prelude.{◌^◌, Err, Ok, Option, Result, fold, if◌then◌else◌, nat_lt, slice_range}
 use Rattle.std.specs.List.{list_all}
 use Rattle.std.proofs.lemmas.Bool.{and_parts, eq-eqb, eqb-true, false_from_ne_true, ltb-true}
@@ -11,20 +11,19 @@ use Rattle.std.proofs.lemmas.List.Sums.{fold-append}
 use Rattle.jp_model.specs.Lines.{text_lines}
 use Rattle.jp_model.specs.Steps.{Step}
 use Rattle.jp_survey.specs.Entries.{IsListing}
-use Rattle.jp_survey.specs.Foldings.{Refolds, is_over}
-use Rattle.jp_survey.specs.Justified.{StayJustified}
+use Rattle.jp_survey.specs.Foldings.{is_over}
 use Rattle.jp_survey.specs.Paths.{Line}
-use Rattle.jp_survey.specs.Places.{AreApart, paths_of}
+use Rattle.jp_survey.specs.Places.{paths_of}
 use Rattle.jp_survey.specs.Rows.{Row, Told, beginning, has_number, is_normal, is_row, lines_of, lines_told, nothing_told, number_text, row_text, telling, told_more, told_on}
 use Rattle.jp_survey.specs.Seen.{HasBegun, HasSeen, HasTaken, HasTold, IsSurveyed, IsTakenInto}
 use Rattle.jp_survey.specs.Surveys.{Entry, shown_by, texts_in}
-use Rattle.jp_survey.specs.Trees.{links_of, names_of}
+use Rattle.jp_survey.specs.Trees.{IsTree, folded_of, links_of, names_of}
 use Rattle.jp_survey.specs.declared.folding.Folded.{Folded}
 use Rattle.jp_survey.specs.declared.input.Surveyed.{Surveyed}
 use Rattle.jp_survey.specs.declared.input.Surveyed.TheVariants as kinds
 use Rattle.jp_survey.specs.declared.tree.Tree.{Tree}
 use Rattle.jp_survey.proofs.Begun.{line_ends}
-use Rattle.jp_survey.proofs.Seen.{folded_seen}
+use Rattle.jp_survey.proofs.Seen.{seen_counted}
 use Rattle.jp_survey.proofs.Told.{survey_of_listing}
 
 -- all bytes of a text
@@ -161,15 +160,14 @@ file_begins (Ok a) limit told number after old new none h begins =
 
 -- ---- in the end
 
-pub taken_folded : {E : Type 0} (surveyed : Surveyed) (r : Result Folded E) (limit : ℕ) (rows : List (List ℕ)) (number : List ℕ) (tree : Tree) → HasTaken surveyed limit rows number tree
-    → IfOk r (λ folded. Refolds (names_of tree) (links_of tree) tree.counts.places.items folded.links.links.keys folded.counts.places.items)
-    → IfOk r (λ folded. AreApart (names_of tree) folded.links.links.keys) → IfOk r (λ folded. StayJustified limit (names_of tree) (links_of tree) folded.links.links.keys)
-    → IfOk r (λ folded. (place : ℕ) → place < length folded.links.links.keys → is_over limit folded.links.links.keys place ≡ false) → IfOk r (IsTakenInto surveyed limit (names_of tree) rows)
-taken_folded kinds.Lines r limit rows number tree h refolds apart justified none = folded_seen r limit (texts_in rows) tree (h.lines refl) refolds apart justified none
-taken_folded kinds.Nodes (Err e) limit rows number tree h refolds apart justified none = refolds
-taken_folded {E} kinds.Nodes (Ok folded) limit rows number tree h refolds apart justified none = λ told are is.
+pub taken_folded : {A E : Type 0} (r : Result A E) (surveyed : Surveyed) (limit : ℕ) (rows : List (List ℕ)) (number : List ℕ) (old tree : Tree) → HasTaken surveyed limit rows number old
+    → ((lines : List Line) → HasSeen limit lines old → OnOk r (HasSeen limit lines tree)) → OnOk r (IsTree tree) → OnOk r ((place : ℕ) → place < length (links_of tree) → is_over tree.fold (links_of tree) place ≡ false)
+    → OnOk r (IsTakenInto surveyed limit (names_of tree) rows (folded_of tree))
+taken_folded (Ok done) kinds.Lines limit rows number old tree h seen is none = seen_counted limit (texts_in rows) tree is (seen (texts_in rows) (h.lines refl)) none
+taken_folded (Ok done) kinds.Nodes limit rows number old tree h seen is none = λ told are same.
     let all = fold told_more nothing_told told in
-    folded_seen {E = E} (Ok folded) limit (lines_told all) tree (line_ends limit all.lines all.line tree (h.nodes refl told are is).begun) refolds apart justified none
+    seen_counted limit (lines_told all) tree is (seen (lines_told all) (line_ends limit all.lines all.line old (h.nodes refl told are same).begun)) none
+taken_folded (Err e) surveyed limit rows number old tree h seen is none = is
 
 pub surveyed_listing : (surveyed : Surveyed) (limit : ℕ) (names : List (List ℕ)) (rows : List (List ℕ)) (folded : Folded) (survey : List Entry) → IsTakenInto surveyed limit names rows folded
     → IsListing (paths_of names folded.links.links.keys) folded.counts.places.items survey → IsSurveyed surveyed limit rows survey

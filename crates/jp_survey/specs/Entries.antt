@@ -1,5 +1,5 @@
 -- The entries of places, and those of rows that are listed.
-use Rattle.std.specs.Prelude.{◌≡◌, List, [], ◌∷◌, ◌++◌, ◌==◌, Bool, true, false, min, map, chars, string_bytes, All, Vec, if◌then◌else◌}
+use Rattle.std.specs.Prelude.{◌≡◌, List, [], ◌∷◌, ◌++◌, ◌==◌, Bool, true, false, min, map, chars, string_bytes, All, if◌then◌else◌}
 use Rattle.std.specs.List.Sorted.{IsSorted}
 use Rattle.jp_survey.specs.Counts.{lines_of, nodes_of, sum_where}
 use Rattle.jp_survey.specs.Paths.{Path, Stride, element, member, others, path_equal}
@@ -8,7 +8,7 @@ use Rattle.jp_survey.specs.declared.count.Count.{Count}
 use Rattle.jp_survey.specs.declared.count.PlaceCounts.{PlaceCounts}
 use Rattle.jp_survey.specs.declared.kind.NodeKind.{NodeKind}
 use Rattle.jp_survey.specs.declared.kind.NodeKind.TheVariants as kinds
-use Rattle.jp_survey.specs.declared.listing.Row.{Row}
+use Rattle.jp_survey.specs.declared.text.Row.{Row}
 use Rattle.jp_survey.specs.declared.listing.Stride.{Stride as Listed}
 use Rattle.jp_survey.specs.declared.listing.Stride.TheVariants as listed
 
@@ -26,10 +26,6 @@ is_others_listed listed.Others = true
 -- a path that is listed
 abbrev pub path_of_listed : List Listed → Path
 path_of_listed path = map stride_of_listed path
-
--- paths that are listed
-abbrev pub paths_of_listed : {A : Type 0} → List (Vec Listed A) → List Path
-paths_of_listed paths = map (λ path. path_of_listed path.items) paths
 
 -- a row as an entry
 abbrev pub entry_of : Row → Entry

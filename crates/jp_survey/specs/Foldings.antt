@@ -1,13 +1,11 @@
 -- Paths below objects that are folded.
-use Rattle.std.specs.Prelude.{◌≡◌, ℕ, ◌<◌, List, [], ◌∷◌, ◌++◌, Bool, true, ◌&&◌, ◌||◌, All, length, nat_lt, slice_index_or, fold, if◌then◌else◌}
+use Rattle.std.specs.Prelude.{◌≡◌, ℕ, ◌<◌, List, [], ◌∷◌, ◌++◌, Bool, true, ◌&&◌, ◌||◌, length, nat_lt, fold, if◌then◌else◌}
 use Rattle.jp_survey.specs.Paths.{Path, Stride, element, member, others}
 use Rattle.jp_survey.specs.Counts.{counts_at, last_of, sum_where, sums_of}
-use Rattle.jp_survey.specs.Places.{AreLinked, ArePlaces, folds_of, has_link, has_path, is_named, link_at, members_of, paths_of}
+use Rattle.jp_survey.specs.Places.{ArePlaces, folds_of, has_link, has_path, members_of, paths_of}
 use Rattle.jp_survey.specs.declared.count.PlaceCounts.{PlaceCounts}
 use Rattle.jp_survey.specs.declared.kind.NodeKind.{NodeKind}
 use Rattle.jp_survey.specs.declared.links.Link.{Link}
-use Rattle.jp_survey.specs.declared.links.Links.{Links}
-use Rattle.jp_survey.specs.declared.links.Step.{Step}
 use Rattle.jp_survey.specs.declared.links.Step.TheVariants as steps
 
 -- a stride from an object's path: where the object is folded, a member is not told from the others
@@ -35,36 +33,6 @@ Closed folds some = (path : Path) → has_path some path ≡ true → has_path f
 -- an object is to be folded: it has more members by name than it may have, or some where others are not told apart
 abbrev pub is_over : (fold : ℕ) → List Link → ℕ → Bool
 is_over fold links place = nat_lt fold (members_of links place) || (nat_lt 0 (members_of links place) && has_link links (record { parent = place; step = steps.Others }))
-
--- a step, once such objects are folded
-abbrev pub folded_step : (fold : ℕ) → List Link → Link → Step
-folded_step fold links link = if is_named link.step && is_over fold links link.parent then steps.Others else link.step
-
--- a link between the places to which those of others have moved
-abbrev pub moved_link : (fold : ℕ) → List Link → (places : List ℕ) → Link → Link
-moved_link fold links places link = record { parent = slice_index_or places link.parent 0; step = folded_step fold links link }
-
--- The first places have moved to other ones, where such objects are folded.
-pub record Moved (fold : ℕ) (links next : List Link) (places : List ℕ) (n : ℕ) : Type 0 where
-  pub root : slice_index_or places 0 0 ≡ 0
-  pub at : (k : ℕ) → 0 < k → k < n → (slice_index_or places k 0 < length next) × (link_at next (slice_index_or places k 0) ≡ moved_link fold links places (link_at links k))
-
--- The first places have moved to others, which are places too.
-pub record AreMoved (fold : ℕ) (names : List (List ℕ)) (links next : List Link) (to : List ℕ) : Type 0 where
-  pub places : ArePlaces names next
-  pub moved : Moved fold links next to (length to)
-
--- Places have moved to those of other links, the root among them.
-pub record LeadInto (to : List ℕ) (next : Links) : Type 0 where
-  pub linked : AreLinked next
-  pub root : 0 < length next.links.keys
-  pub within : All (λ place. place < length next.links.keys) to
-
--- All places have moved to others, which are places too.
-pub record HaveMoved (fold : ℕ) (names : List (List ℕ)) (links next : List Link) (to : List ℕ) : Type 0 where
-  pub places : ArePlaces names next
-  pub many : length to ≡ length links
-  pub moved : Moved fold links next to (length links)
 
 -- Places and their counts have become others, at which more objects are folded: where all of these are folded anyway, the paths that
 -- pass any test have as many nodes and lines. No line is known there to be the last.

@@ -1,6 +1,5 @@
 -- Objects that are folded since they have many names.
-use Rattle.std.specs.Prelude.{◌≡◌, ℕ, ◌<◌, ◌==◌, List, [], ◌∷◌, ◌++◌, true, ◌⊎◌, length, take, drop, flat_map, if◌then◌else◌}
-use Rattle.std.specs.List.{list_any}
+use Rattle.std.specs.Prelude.{◌≡◌, ℕ, List, [], ◌∷◌, ◌++◌, true, ◌⊎◌, length, take, drop, flat_map, if◌then◌else◌}
 use Rattle.std.specs.Set.{is_member}
 use Rattle.jp_model.specs.Characters.{text_equal}
 use Rattle.jp_survey.specs.Foldings.{Closed, folded_by}
@@ -41,7 +40,3 @@ StayJustified fold names links next =
 -- There is at most one path more.
 abbrev pub WithPath : (old : List Path) → Path → (new : List Path) → Type 0
 WithPath old path new = (new ≡ old) ⊎ (new ≡ old ++ path ∷ [])
-
--- Each place but the root is one to which a place has moved.
-abbrev pub AreReached : (next : List Link) → (to : List ℕ) → Type 0
-AreReached next to = (place : ℕ) → 0 < place → place < length next → list_any (◌==◌ place) to ≡ true

@@ -5,10 +5,12 @@ pub mod Places
 pub mod Surveys
 pub mod Counts
 pub mod Foldings
+pub mod Movings
 pub mod Justified
 pub mod Trees
 pub mod Located
 pub mod Rows
 pub mod Seen
 pub mod Entries
+pub mod Walked
 pub mod Texts

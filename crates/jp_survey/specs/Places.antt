@@ -125,8 +125,11 @@ abbrev pub AreApart : List (List ℕ) → List Link → Type 0
 AreApart names links =
     (k : ℕ) → k < length links → is_named (link_at links k).step ≡ true → has_path (folds_of names links) (path_at (paths_of names links) (link_at links k).parent) ≡ false
 
--- Links have as many members by name counted as they have, and each is below a place that is there.
+-- The members by name are counted of each place of links.
+abbrev pub AreMembersCounted : Links → Type 0
+AreMembersCounted links = (k : ℕ) → slice_index_or links.members.items k 0 ≡ members_of links.links.keys k
+
+-- The same, and each link is below a place that is there.
 pub record AreLinked (links : Links) : Type 0 where
-  pub many : length links.members.items ≡ length links.links.keys
-  pub members : (k : ℕ) → k < length links.links.keys → slice_index_or links.members.items k 0 ≡ members_of links.links.keys k
+  pub counted : AreMembersCounted links
   pub within : (k : ℕ) → k < length links.links.keys → (link_at links.links.keys k).parent < length links.links.keys

@@ -27,6 +27,10 @@ tree_paths tree = paths_of (names_of tree) (links_of tree)
 abbrev pub tree_folds : Tree → List Path
 tree_folds tree = folds_of (names_of tree) (links_of tree)
 
+-- its places with their counts
+abbrev pub folded_of : Tree → Folded
+folded_of tree = record { links = tree.links; counts = tree.counts }
+
 -- Its places have different paths, no member of an object that is folded is told from the others, and each place has its counts.
 pub record IsTree (tree : Tree) : Type 0 where
   pub places : ArePlaces (names_of tree) (links_of tree)

@@ -1,10 +1,11 @@
 //! Objects that are folded, since they have more names than paths are wanted.
 
-ghost use Rattle.std.specs.Prelude.{◌≡◌, ◌<◌, ◌++◌, ◌∷◌, [], ℕ, IfOk, List, OnOk, false, length};
+ghost use Rattle.std.specs.Prelude.{◌≡◌, ◌<◌, ℕ, IfOk, List, None, OnOk, Some, false, length, map, true};
 ghost use Rattle.jp_survey.specs.Counts.{Joined};
-ghost use Rattle.jp_survey.specs.Foldings.{AreMoved, HaveMoved, LeadInto, Refolds, folded_step, is_over, moved_link};
-ghost use Rattle.jp_survey.specs.Justified.{AreReached, StayJustified};
-ghost use Rattle.jp_survey.specs.Places.{AreApart, AreLinked, ArePlaces, link_at, root_link};
+ghost use Rattle.jp_survey.specs.Foldings.{Refolds, is_over};
+ghost use Rattle.jp_survey.specs.Justified.{StayJustified};
+ghost use Rattle.jp_survey.specs.Movings.{AreByDepth, AreCountedMoving, AreMoving, StayMoving, folded_step, moved_to};
+ghost use Rattle.jp_survey.specs.Places.{AreApart, AreLinked, AreMembersCounted, ArePlaces, link_at};
 
 use crate::count::Counts;
 use crate::links::{Link, Links, Step};
@@ -17,107 +18,175 @@ pub(crate) struct Folded {
     pub(crate) counts: Counts,
 }
 
-impl Links {
-    /// Whether the object at a place is to be folded: it has more members by name than it may have, or some where others are
-    /// not told apart.
-    fn is_over(&self, place: usize, fold: u64) -> bool
-        requires linked { AreLinked self.now }
-        requires place { place < length self.now.links.keys }
-        ensures { result ≡ is_over fold self.now.links.keys place }
-    {
-        let step = Step::Others;
-        let others = Link {
-            parent: place,
-            step,
-        };
-        let members = self.members[place];
-        members > fold || (members > 0 && self.find(others).is_some())
-    }
+/// A place, by how many steps lead to it.
+#[derive(Clone, Copy, Debug, PartialEq, Eq, PartialOrd, Ord)]
+struct Deep {
+    depth: usize,
+    place: usize,
+}
 
-    /// Whether an object is to be folded.
-    pub(crate) fn has_over(&self, fold: u64) -> bool
-        requires { AreLinked self.now }
-        ensures { result ≡ false → (place : ℕ) → place < length self.now.links.keys → is_over fold self.now.links.keys place ≡ false }
+/// Places that move to others, where objects are folded.
+#[derive(Drop)]
+pub(crate) struct Moving {
+    /// The others. Objects are folded here.
+    folded: Links,
+    /// All that lies below these, each by the number of the one above it. Objects are not folded here.
+    told: Links,
+    /// Where each place has moved.
+    places: Vec<Option<usize>>,
+}
+
+impl Moving {
+    /// The first of some places has moved, which is the root.
+    fn new(alloc: Global, many: usize) -> Result<Moving, AllocError>
+        ensures counted { IfOk result AreCountedMoving }
+        ensures moving { (fold : ℕ) (names : List (List ℕ)) (links : List Link) → ArePlaces names links → many ≡ length links
+            → IfOk result (λ moving. AreMoving fold names links moving.told.links.keys moving.folded.links.keys moving.places.items) }
     {
-        for place in 0..self.len() {
-            if self.is_over(place, fold) {
-                return true;
-            }
+        let mut places = Vec::new(alloc);
+        places.push(Some(0))?;
+        for _place in 1..many {
+            places.push(None)?;
         }
-        false
+        Ok(Moving {
+            folded: Links::new(alloc)?,
+            told: Links::new(alloc)?,
+            places,
+        })
     }
 
-    /// The step to a place, once the objects are folded that are to be.
+    /// Whether a place is to move yet.
+    fn is_left(&self, place: usize) -> bool
+        ensures { result ≡ true → (place < length self.now.places.items) × (moved_to self.now.places.items place ≡ None) }
+    {
+        matches!(self.places.get(place), Some(None))
+    }
+
+    /// The link of a place below the place to which the one above it has moved.
+    fn link_of(&self, links: &Links, place: usize) -> Result<Link, AllocError>
+        ensures within { OnOk result (place < length links.now.links.keys) }
+        ensures parent { IfOk result (λ link. moved_to self.now.places.items (link_at links.now.links.keys place).parent ≡ Some link.parent) }
+        ensures step { IfOk result (λ link. link.step ≡ (link_at links.now.links.keys place).step) }
+    {
+        let link = *links.links.get_index(place).ok_or(AllocError)?;
+        let Some(Some(parent)) = self.places.get(link.parent) else {
+            return Err(AllocError);
+        };
+        Ok(Link {
+            parent: *parent,
+            step: link.step,
+        })
+    }
+
+    /// Tells what a place is.
+    fn tell(&mut self, links: &Links, place: usize) -> Result<(), AllocError>
+        requires { AreCountedMoving self.old }
+        ensures counted { OnOk result (AreCountedMoving self.new) }
+        ensures moving { (fold : ℕ) → OnOk result (StayMoving fold links.now.links.keys self.old self.new) }
+    {
+        let link = self.link_of(links, place)?;
+        self.told.add(link)?;
+        Ok(())
+    }
+
+    /// The step of a link, once the objects are folded that are to be.
     fn folded_step(&self, link: Link, fold: u64) -> Step
-        requires linked { AreLinked self.now }
-        requires parent { link.parent < length self.now.links.keys }
-        ensures { result ≡ folded_step fold self.now.links.keys link }
+        requires { AreMembersCounted self.now.told }
+        ensures { result ≡ folded_step (is_over fold self.now.told.links.keys link.parent) link.step }
     {
         match link.step {
-            Step::Member(_) if self.is_over(link.parent, fold) => Step::Others,
+            Step::Member(_) if self.told.is_over(link.parent, fold) => Step::Others,
             step => step,
         }
     }
-}
 
-/// The link of a place, once it has moved: `places` has the new place of each place before it.
-fn moved_link(links: &Links, link: Link, fold: u64, places: &[usize]) -> Result<Link, AllocError>
-    requires linked { AreLinked links.now }
-    requires parent { link.parent < length links.now.links.keys }
-    ensures moved { IfOk result (λ moved. moved ≡ moved_link fold links.now.links.keys places.now link) }
-    ensures known { IfOk result (λ moved. link.parent < length places.now) }
-{
-    let parent = *places.get(link.parent).ok_or(AllocError)?;
-    Ok(Link {
-        parent,
-        step: links.folded_step(link, fold),
-    })
-}
-
-/// Adds the place to which the next one moves, and gives its number: `places` has the new place of each place before it.
-fn move_place(
-    links: &Links,
-    link: Link,
-    fold: u64,
-    places: &[usize],
-    folded: &mut Links,
-) -> Result<usize, AllocError>
-    requires linked { AreLinked links.now }
-    requires left { length places.now < length links.now.links.keys }
-    requires next { link ≡ link_at links.now.links.keys (length places.now) }
-    requires lead { LeadInto places.now folded.old }
-    ensures lead { IfOk result (λ place. LeadInto (places.now ++ place ∷ []) folded.new) }
-    ensures moved { (names : List (List ℕ)) → ArePlaces names links.now.links.keys → AreMoved fold names links.now.links.keys folded.old.links.keys places.now → IfOk result (λ place. AreMoved fold names links.now.links.keys folded.new.links.keys (places.now ++ place ∷ [])) }
-    ensures reached { AreReached folded.old.links.keys places.now → IfOk result (λ place. AreReached folded.new.links.keys (places.now ++ place ∷ [])) }
-{
-    match link.step {
-        Step::Start => Ok(0),
-        Step::Element | Step::Member(_) | Step::Others => {
-            folded.add(moved_link(links, link, fold, places)?)
+    /// Moves a place, unless it has moved.
+    fn move_place(&mut self, links: &Links, place: usize, fold: u64) -> Result<(), AllocError>
+        requires { AreCountedMoving self.old }
+        ensures counted { OnOk result (AreCountedMoving self.new) }
+        ensures moving { OnOk result (StayMoving fold links.now.links.keys self.old self.new) }
+    {
+        if !self.is_left(place) {
+            return Ok(());
         }
+        let link = self.link_of(links, place)?;
+        let step = self.folded_step(link, fold);
+        let parent = link.parent;
+        let to = self.folded.add(Link { parent, step })?;
+        self.places[place] = Some(to);
+        Ok(())
+    }
+
+    /// Tells what some places are.
+    fn tell_all(&mut self, links: &Links, places: &[Deep]) -> Result<(), AllocError>
+        requires { AreCountedMoving self.old }
+        ensures counted { OnOk result (AreCountedMoving self.new) }
+        ensures moving { (fold : ℕ) → OnOk result (StayMoving fold links.now.links.keys self.old self.new) }
+    {
+        for deep in places {
+            self.tell(links, deep.place)?;
+        }
+        Ok(())
+    }
+
+    /// Moves the places of a depth, once it has told what all of them are.
+    fn move_level(&mut self, links: &Links, places: &[Deep], fold: u64) -> Result<(), AllocError>
+        requires { AreCountedMoving self.old }
+        ensures counted { OnOk result (AreCountedMoving self.new) }
+        ensures moving { OnOk result (StayMoving fold links.now.links.keys self.old self.new) }
+    {
+        self.tell_all(links, places)?;
+        for deep in places {
+            self.move_place(links, deep.place, fold)?;
+        }
+        Ok(())
+    }
+
+    /// Moves places, which are in the order of their depth.
+    fn move_all(&mut self, links: &Links, places: &[Deep], fold: u64) -> Result<(), AllocError>
+        requires { AreCountedMoving self.old }
+        ensures counted { OnOk result (AreCountedMoving self.new) }
+        ensures moving { OnOk result (StayMoving fold links.now.links.keys self.old self.new) }
+    {
+        let mut first = 0;
+        for (index, deep) in places.iter().enumerate() {
+            if deep.depth > places[first].depth {
+                self.move_level(links, &places[first..index], fold)?;
+                first = index;
+            }
+        }
+        self.move_level(links, &places[first..], fold)
     }
 }
 
-/// Adds the places with their objects folded that are to be, and gives the new place of each.
-fn fold_links(
-    alloc: Global,
-    links: &Links,
-    fold: u64,
-    folded: &mut Links,
-) -> Result<Vec<usize>, AllocError>
-    requires links { AreLinked links.now }
-    requires folded { AreLinked folded.old }
-    requires root { folded.old.links.keys ≡ root_link ∷ [] }
-    ensures moved { (names : List (List ℕ)) → ArePlaces names links.now.links.keys → IfOk result (λ places. HaveMoved fold names links.now.links.keys folded.new.links.keys places.items) }
-    ensures linked { OnOk result (AreLinked folded.new) }
-    ensures reached { IfOk result (λ places. AreReached folded.new.links.keys places.items) }
+/// Places in the order of their depth.
+fn by_depth(alloc: Global, links: &Links) -> Result<Vec<Deep>, AllocError>
+    ensures { (names : List (List ℕ)) → ArePlaces names links.now.links.keys → IfOk result (λ places. AreByDepth names links.now.links.keys places.items) }
 {
-    let mut places = Vec::new(alloc);
-    for link in links.links.as_slice() {
-        let place = move_place(links, *link, fold, &places, folded)?;
-        places.push(place)?;
+    let mut places: Vec<Deep> = Vec::new(alloc);
+    for (place, link) in links.links.as_slice().iter().enumerate() {
+        let depth = match link.step {
+            Step::Start => 0,
+            Step::Element | Step::Member(_) | Step::Others => {
+                let above = places.get(link.parent).ok_or(AllocError)?;
+                above.depth.checked_add(1).ok_or(AllocError)?
+            }
+        };
+        places.push(Deep { depth, place })?;
     }
+    places.sort_unstable();
     Ok(places)
+}
+
+/// Where places have moved, if all have.
+fn all_moved(alloc: Global, places: &[Option<usize>]) -> Result<Vec<usize>, AllocError>
+    ensures { IfOk result (λ all. map Some all.items ≡ places.now) }
+{
+    let mut all = Vec::new(alloc);
+    for place in places {
+        all.push((*place).ok_or(AllocError)?)?;
+    }
+    Ok(all)
 }
 
 /// The counts of places that were folded: `places` has the new place of each, and `most` are there.
@@ -141,25 +210,8 @@ fn fold_counts(
     Ok(folded)
 }
 
-/// The places with each object folded that has more members by name than it may have.
-fn fold_once(alloc: Global, links: &Links, counts: &Counts, fold: u64) -> Result<Folded, AllocError>
-    requires linked { AreLinked links.now }
-    requires counted { length counts.now.places.items ≡ length links.now.links.keys }
-    ensures linked { IfOk result (λ folded. AreLinked folded.links) }
-    ensures counted { IfOk result (λ folded. length folded.counts.places.items ≡ length folded.links.links.keys) }
-    ensures refolds { (names : List (List ℕ)) → ArePlaces names links.now.links.keys → IfOk result (λ folded. Refolds names links.now.links.keys counts.now.places.items folded.links.links.keys folded.counts.places.items) }
-    ensures justified { (names : List (List ℕ)) → ArePlaces names links.now.links.keys → IfOk result (λ folded. StayJustified fold names links.now.links.keys folded.links.links.keys) }
-{
-    let mut folded = Links::new(alloc)?;
-    let places = fold_links(alloc, links, fold, &mut folded)?;
-    let counts = fold_counts(alloc, counts, &places, folded.len())?;
-    Ok(Folded {
-        links: folded,
-        counts,
-    })
-}
-
-/// The places with their objects folded, until none has more members by name than it may have.
+/// The places with their objects folded, from the top down: all that fall into one place are known before any that lies below
+/// them moves, so that none has more members by name than it may have.
 pub(crate) fn fold_all(
     alloc: Global,
     links: &Links,
@@ -175,13 +227,17 @@ pub(crate) fn fold_all(
     ensures justified { (names : List (List ℕ)) → ArePlaces names links.now.links.keys → IfOk result (λ folded. StayJustified fold names links.now.links.keys folded.links.links.keys) }
     ensures over { IfOk result (λ folded. (place : ℕ) → place < length folded.links.links.keys → is_over fold folded.links.links.keys place ≡ false) }
 {
-    let mut folded = fold_once(alloc, links, counts, fold)?;
-    // Each turn but the last leaves fewer places with a name than there were.
-    for _turn in 0..links.len() {
-        if !folded.links.has_over(fold) {
-            return Ok(folded);
-        }
-        folded = fold_once(alloc, &folded.links, &folded.counts, fold)?;
+    let order = by_depth(alloc, links)?;
+    let mut moving = Moving::new(alloc, links.len())?;
+    moving.move_all(links, &order, fold)?;
+    let places = all_moved(alloc, &moving.places)?;
+    let counts = fold_counts(alloc, counts, &places, moving.folded.len())?;
+    // None is left to be folded, which is looked at and not proved.
+    if moving.folded.has_over(fold) {
+        return Err(AllocError);
     }
-    Err(AllocError)
+    Ok(Folded {
+        links: moving.folded,
+        counts,
+    })
 }

@@ -20,6 +20,7 @@ pub mod laws;
 mod links;
 mod listing;
 mod location;
+mod order;
 mod survey;
 mod text;
 mod tree;

@@ -1,7 +1,8 @@
 //! The places that paths lead to, each linked to the one above it.
 
-ghost use Rattle.std.specs.Prelude.{◌≡◌, ◌+◌, ◌<◌, ◌∷◌, [], IfOk, OnOk, is_some, length, not, position};
-ghost use Rattle.jp_survey.specs.Places.{AreLinked, has_link, link_at, link_equal, root_link, with_link};
+ghost use Rattle.std.specs.Prelude.{◌≡◌, ◌+◌, ◌<◌, ◌∷◌, [], ℕ, IfOk, OnOk, false, is_some, length, not, position};
+ghost use Rattle.jp_survey.specs.Foldings.{is_over};
+ghost use Rattle.jp_survey.specs.Places.{AreLinked, AreMembersCounted, has_link, link_at, link_equal, members_of, root_link, with_link};
 
 use indexmap::IndexSet;
 use std::alloc::{AllocError, Global};
@@ -82,9 +83,49 @@ impl Links {
         self.links.get_index_of(&link)
     }
 
+    /// How many members by name a place has.
+    fn members_of(&self, place: usize) -> u64
+        requires { AreMembersCounted self.now }
+        ensures { result ≡ members_of self.now.links.keys place }
+    {
+        match self.members.get(place) {
+            Some(members) => *members,
+            None => 0,
+        }
+    }
+
+    /// Whether the object at a place is to be folded: it has more members by name than it may have, or some where others are
+    /// not told apart.
+    pub(crate) fn is_over(&self, place: usize, fold: u64) -> bool
+        requires { AreMembersCounted self.now }
+        ensures { result ≡ is_over fold self.now.links.keys place }
+    {
+        let step = Step::Others;
+        let others = Link {
+            parent: place,
+            step,
+        };
+        let members = self.members_of(place);
+        members > fold || (members > 0 && self.find(others).is_some())
+    }
+
+    /// Whether an object is to be folded.
+    pub(crate) fn has_over(&self, fold: u64) -> bool
+        requires { AreMembersCounted self.now }
+        ensures { result ≡ false → (place : ℕ) → place < length self.now.links.keys → is_over fold self.now.links.keys place ≡ false }
+    {
+        for place in 0..self.len() {
+            if self.is_over(place, fold) {
+                return true;
+            }
+        }
+        false
+    }
+
     /// The number of a place, which is added where it is new.
     pub(crate) fn add(&mut self, link: Link) -> Result<usize, AllocError>
         ensures links { OnOk result (self.new.links.keys ≡ with_link self.old.links.keys link) }
+        ensures counted { AreMembersCounted self.old → OnOk result (AreMembersCounted self.new) }
         ensures linked { AreLinked self.old → link.parent < length self.old.links.keys → OnOk result (AreLinked self.new) }
         ensures within { IfOk result (λ place. place < length self.new.links.keys) }
         ensures place { IfOk result (λ place. link_at self.new.links.keys place ≡ link) }

@@ -1,16 +1,13 @@
-//! The rows of a survey, in order.
+//! The way from place to place.
 
-ghost use Rattle.std.specs.Prelude.{◌≡◌, ◌≤◌, ◌++◌, length, map, IfOk, OnOk};
-ghost use Rattle.std.specs.List.{list_any};
-ghost use Rattle.std.specs.List.Sorted.{IsPermutation, IsSorted};
-ghost use Rattle.jp_survey.specs.Entries.{entries_at, entries_of, entry_at, entry_of, is_others_listed};
-ghost use Rattle.jp_survey.specs.Entries.{path_of_listed, paths_of_listed};
-ghost use Rattle.jp_survey.specs.Places.{names_in, path_below, paths_of};
-ghost use Rattle.jp_survey.specs.Surveys.{entry_cmp, told_lines};
+ghost use Rattle.std.specs.Prelude.{◌≡◌, ◌+◌, ℕ, IfOk, List, OnOk, length, slice_index_or};
+ghost use Rattle.jp_survey.specs.Entries.{path_of_listed, stride_of_listed};
+ghost use Rattle.jp_survey.specs.Paths.{Path};
+ghost use Rattle.jp_survey.specs.Places.{ArePlaces, names_in, path_at, paths_of, stride_in};
+ghost use Rattle.jp_survey.specs.declared.links.Link.{Link};
+ghost use Rattle.jp_survey.specs.Walked.{IsWay};
 
-use crate::count::{Count, Counts, PlaceCounts};
-use crate::kind::NodeKind;
-use crate::links::{Link, Links, Step};
+use crate::links::{Links, Step};
 use indexmap::IndexSet;
 use std::alloc::{AllocError, Global};
 
@@ -25,121 +22,77 @@ pub(crate) enum Stride<'a> {
     Others,
 }
 
-/// A row: how many nodes of a kind have a path.
-#[derive(Clone, Copy, Debug, PartialEq, Eq, PartialOrd, Ord)]
-pub(crate) struct Row<'p, 'n> {
-    pub(crate) path: &'p [Stride<'n>],
-    pub(crate) kind: NodeKind,
-    pub(crate) nodes: u64,
-    /// In how many lines there is one, unless the path goes through an object that is folded.
-    pub(crate) lines: Option<u64>,
-}
-
-/// The path of a place, by the paths of those above it.
-fn path_of<'a>(
-    alloc: Global,
-    names: &'a IndexSet<String>,
-    above: &[Vec<Stride<'a>>],
-    link: Link,
-) -> Result<Vec<Stride<'a>>, AllocError>
-    ensures { IfOk result (λ path. path_of_listed path.items ≡ path_below (names_in names.now.keys) (paths_of_listed above.now) link) }
+/// A step as it is shown.
+pub(crate) fn stride_of(names: &IndexSet<String>, step: Step) -> Result<Stride<'_>, AllocError>
+    ensures { IfOk result (λ stride. stride_of_listed stride ≡ stride_in (names_in names.now.keys) step) }
 {
-    let stride = match link.step {
-        Step::Start => return Ok(Vec::new(alloc)),
-        Step::Element => Stride::Element,
-        Step::Member(number) => Stride::Member(names.get_index(number).ok_or(AllocError)?),
-        Step::Others => Stride::Others,
-    };
-    let parent = above.get(link.parent).ok_or(AllocError)?;
-    let mut path = Vec::from_slice(alloc, parent)?;
-    path.push(stride)?;
-    Ok(path)
-}
-
-/// The paths of places.
-pub(crate) fn list_paths<'a>(
-    alloc: Global,
-    names: &'a IndexSet<String>,
-    links: &Links,
-) -> Result<Vec<Vec<Stride<'a>>>, AllocError>
-    ensures { IfOk result (λ paths. paths_of_listed paths.items ≡ paths_of (names_in names.now.keys) links.now.links.keys) }
-{
-    let mut paths = Vec::new(alloc);
-    for link in links.links.as_slice() {
-        let path = path_of(alloc, names, &paths, *link)?;
-        paths.push(path)?;
+    match step {
+        Step::Start | Step::Element => Ok(Stride::Element),
+        Step::Member(number) => {
+            let name = names.get_index(number).ok_or(AllocError)?;
+            Ok(Stride::Member(name))
+        }
+        Step::Others => Ok(Stride::Others),
     }
-    Ok(paths)
 }
 
-/// Whether a path goes through an object that is folded.
-fn is_folded(path: &[Stride<'_>]) -> bool
-    ensures { result ≡ list_any is_others_listed path.now }
-{
-    path.iter().any(|stride| matches!(*stride, Stride::Others))
+/// The way to a place: the places above it and it, and the steps from each to the next.
+#[derive(Drop)]
+pub(crate) struct Way<'n> {
+    places: Vec<usize>,
+    pub(crate) path: Vec<Stride<'n>>,
 }
 
-/// In how many lines a node is, where that is told.
-#[tactic(auto, using(crate::proofs::Placed::folded_listed))]
-fn told_lines(path: &[Stride<'_>], lines: u64) -> Option<u64>
-    ensures { result ≡ told_lines (path_of_listed path.now) lines }
-{
-    if is_folded(path) { None } else { Some(lines) }
-}
-
-/// Adds the row of a kind at a path, where there is a node of it.
-fn add_row<'p, 'n>(
-    path: &'p [Stride<'n>],
-    kind: NodeKind,
-    count: Count,
-    rows: &mut Vec<Row<'p, 'n>>,
-) -> Result<(), AllocError>
-    ensures { OnOk result (map entry_of rows.new.items ≡ map entry_of rows.old.items ++ entry_at (path_of_listed path.now) kind count) }
-{
-    if count.nodes == 0 {
-        return Ok(());
+impl<'n> Way<'n> {
+    /// To the root.
+    pub(crate) fn new(alloc: Global) -> Result<Way<'n>, AllocError>
+        ensures { (names : List (List ℕ)) (links : List Link) → ArePlaces names links → IfOk result (IsWay (paths_of names links)) }
+    {
+        let mut places = Vec::new(alloc);
+        places.push(0)?;
+        Ok(Way {
+            places,
+            path: Vec::new(alloc),
+        })
     }
-    let lines = told_lines(path, count.lines);
-    rows.push(Row {
-        path,
-        kind,
-        nodes: count.nodes,
-        lines,
-    })?;
-    Ok(())
-}
 
-/// Adds the rows of all kinds at a path.
-fn add_rows<'p, 'n>(
-    path: &'p [Stride<'n>],
-    counts: &PlaceCounts,
-    rows: &mut Vec<Row<'p, 'n>>,
-) -> Result<(), AllocError>
-    ensures { OnOk result (map entry_of rows.new.items ≡ map entry_of rows.old.items ++ entries_of (path_of_listed path.now) counts.now) }
-{
-    add_row(path, NodeKind::Null, counts.null, rows)?;
-    add_row(path, NodeKind::Boolean, counts.boolean, rows)?;
-    add_row(path, NodeKind::Number, counts.number, rows)?;
-    add_row(path, NodeKind::String, counts.string, rows)?;
-    add_row(path, NodeKind::Array, counts.array, rows)?;
-    add_row(path, NodeKind::Object, counts.object, rows)
-}
-
-/// The rows of places, in order: `paths` has the path of each.
-pub(crate) fn list_rows<'p, 'n>(
-    alloc: Global,
-    paths: &'p [Vec<Stride<'n>>],
-    counts: &Counts,
-) -> Result<Vec<Row<'p, 'n>>, AllocError>
-    ensures places { OnOk result (length counts.now.places.items ≤ length paths.now) }
-    ensures rows { IfOk result (λ rows. IsPermutation (entries_at (paths_of_listed paths.now) counts.now.places.items) (map entry_of rows.items)) }
-    ensures order { IfOk result (λ rows. IsSorted entry_cmp (map entry_of rows.items)) }
-{
-    let mut rows = Vec::new(alloc);
-    for (place, some) in counts.places.iter().enumerate() {
-        let path = paths.get(place).ok_or(AllocError)?;
-        add_rows(path, some, &mut rows)?;
+    /// Goes back to a place on it.
+    fn go_back(&mut self, place: usize) -> Result<(), AllocError>
+        ensures way { (paths : List Path) → IsWay paths self.old → OnOk result (IsWay paths self.new) }
+        ensures last { OnOk result ((i : ℕ) → i + 1 ≡ length self.new.places.items → slice_index_or self.new.places.items i 0 ≡ place) }
+    {
+        for _turn in 0..self.path.len() {
+            if self.places.last() == Some(&place) {
+                return Ok(());
+            }
+            let _ = self.places.pop();
+            let _ = self.path.pop();
+        }
+        if self.places.last() == Some(&place) {
+            return Ok(());
+        }
+        Err(AllocError)
     }
-    rows.sort_unstable();
-    Ok(rows)
+
+    /// Goes back to the place above another, and on to that.
+    pub(crate) fn go_to(
+        &mut self,
+        names: &'n IndexSet<String>,
+        links: &Links,
+        place: usize,
+    ) -> Result<(), AllocError>
+        requires places { ArePlaces (names_in names.now.keys) links.now.links.keys }
+        requires way { IsWay (paths_of (names_in names.now.keys) links.now.links.keys) self.old }
+        ensures way { OnOk result (IsWay (paths_of (names_in names.now.keys) links.now.links.keys) self.new) }
+        ensures path { OnOk result (path_of_listed self.new.path.items ≡ path_at (paths_of (names_in names.now.keys) links.now.links.keys) place) }
+    {
+        let link = links.links.get_index(place).ok_or(AllocError)?;
+        self.go_back(link.parent)?;
+        if place > 0 {
+            let stride = stride_of(names, link.step)?;
+            self.path.push(stride)?;
+            self.places.push(place)?;
+        }
+        Ok(())
+    }
 }

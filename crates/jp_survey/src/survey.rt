@@ -1,21 +1,20 @@
 //! A writer of rows that surveys them.
 
-ghost use Rattle.std.specs.Prelude.{◌≡◌, ◌++◌, [], ℕ, List, IfOk, IfSome, false};
+ghost use Rattle.std.specs.Prelude.{◌≡◌, ◌++◌, [], ℕ, List, IfOk, IfSome, OnOk, false};
 ghost use Rattle.std.specs.Io.{WritesAtMost};
 ghost use Rattle.std.proofs.Props.{props};
 ghost use Rattle.jp_devices.specs.Devices.{Grew};
 ghost use Rattle.jp_model.specs.Lines.{open_line, text_lines};
-ghost use Rattle.jp_survey.specs.Places.{ArePlaces, IsKnown-prop};
+ghost use Rattle.jp_survey.specs.Places.{IsKnown-prop};
 ghost use Rattle.jp_survey.specs.Seen.{HasTaken, IsSurveyed, IsTakenInto};
 ghost use Rattle.jp_survey.specs.Surveys.{Entry, before_last};
 ghost use Rattle.jp_survey.specs.Texts.{WritesSurvey, is_write_fault, survey_text};
-ghost use Rattle.jp_survey.specs.Trees.{IsTree, names_of};
+ghost use Rattle.jp_survey.specs.Trees.{IsTree, folded_of, names_of};
 ghost use Rattle.jp_survey.specs.declared.input.Surveyed.TheVariants as kinds;
 
 use crate::fault::SurveyFault;
-use crate::folding::{Folded, fold_all};
 use crate::input::{Surveyed, count_rows};
-use crate::listing::{list_paths, list_rows};
+use crate::order::order_places;
 use crate::text::text_of;
 use crate::tree::Tree;
 use jp_devices::{Watched, write_whole};
@@ -130,6 +129,7 @@ impl Survey {
     /// Counts the rows that came since. If memory is refused, it is full.
     fn count(&mut self) -> Result<(), AllocError>
         ensures came { self.new.came ≡ self.old.came }
+        ensures full { OnOk result (self.new.is_full ≡ self.old.is_full) }
         ensures fold { self.new.fold ≡ self.old.fold }
         ensures surveyed { self.new.surveyed ≡ self.old.surveyed }
     {
@@ -159,6 +159,7 @@ impl Survey {
     /// Counts the rows that came since, once they are many bytes.
     fn make_room(&mut self) -> Result<(), AllocError>
         ensures came { self.new.came ≡ self.old.came }
+        ensures full { OnOk result (self.new.is_full ≡ self.old.is_full) }
         ensures fold { self.new.fold ≡ self.old.fold }
         ensures surveyed { self.new.surveyed ≡ self.old.surveyed }
     {
@@ -174,6 +175,7 @@ impl Survey {
     fn take(&mut self, bytes: &[u8]) -> io::Result<usize>
         ensures bound { WritesAtMost result bytes.now }
         ensures bytes { Grew self.old.came.taken self.new.came.taken result bytes.now }
+        ensures full { OnOk result (self.new.is_full ≡ self.old.is_full) }
         ensures fold { self.new.fold ≡ self.old.fold }
         ensures surveyed { self.new.surveyed ≡ self.old.surveyed }
     {
@@ -194,10 +196,10 @@ impl Survey {
 }
 
 impl Survey {
-    /// The places of the nodes of the rows that came, with the objects folded that have too many names. It is full then.
-    fn places(&mut self) -> Result<Folded, AllocError>
-        ensures places { IfOk result (λ folded. ArePlaces (names_of self.new.tree) folded.links.links.keys) }
-        ensures taken { IfOk result (IsTakenInto self.old.surveyed self.old.fold (names_of self.new.tree) (text_lines self.old.came.taken)) }
+    /// Counts all rows that came, and folds the objects that have too many names. It is full then.
+    fn finish(&mut self) -> Result<(), AllocError>
+        ensures tree { OnOk result (IsTree self.new.tree) }
+        ensures taken { OnOk result (IsTakenInto self.old.surveyed self.old.fold (names_of self.new.tree) (text_lines self.old.came.taken) (folded_of self.new.tree)) }
     {
         if self.is_full {
             return Err(AllocError);
@@ -210,17 +212,17 @@ impl Survey {
             &mut self.number,
             &self.fresh,
         )?;
-        fold_all(self.alloc, &self.tree.links, &self.tree.counts, self.fold)
+        self.tree.fold_objects()
     }
 
     /// The text of the survey of the rows that came. It is full then.
     fn text(&mut self, table: Table, has_names: bool) -> Result<Vec<u8>, AllocError>
         ensures { IfOk result (λ text. (survey : List Entry) × IsSurveyed self.old.surveyed self.old.fold (text_lines self.old.came.taken) survey × (text.items ≡ survey_text table has_names survey)) }
     {
-        let places = self.places()?;
-        let paths = list_paths(self.alloc, &self.tree.names, &places.links)?;
-        let rows = list_rows(self.alloc, &paths, &places.counts)?;
-        text_of(self.alloc, table, has_names, &rows)
+        self.finish()?;
+        let tree = &self.tree;
+        let order = order_places(self.alloc, &tree.names, &tree.links)?;
+        text_of(self.alloc, table, has_names, tree, &order)
     }
 
     /// Writes what is in the lines or the nodes of the rows that came: for each path and kind of value one row, in order, with in how
@@ -254,13 +256,14 @@ impl Survey {
 
 /// The bytes that it has are those that came. A write fails where memory is refused, and the survey is then of no use.
 impl Write for Survey {
-    ghost use Rattle.std.specs.Prelude.{Some};
+    ghost use Rattle.std.specs.Prelude.{◌||◌, Some, is_err};
 
     ghost contents = { λ survey. Some survey.came.taken };
 
     fn write(&mut self, bytes: &[u8]) -> io::Result<usize>
         ensures bound { WritesAtMost result bytes.now }
         ensures bytes { Grew self.old.came.taken self.new.came.taken result bytes.now }
+        ensures full { self.new.is_full ≡ (self.old.is_full || is_err result) }
         ensures fold { self.new.fold ≡ self.old.fold }
         ensures surveyed { self.new.surveyed ≡ self.old.surveyed }
     {
@@ -271,6 +274,7 @@ impl Write for Survey {
 
     fn flush(&mut self) -> io::Result<()>
         ensures bytes { self.new.came.taken ≡ self.old.came.taken }
+        ensures full { self.new.is_full ≡ self.old.is_full }
         ensures fold { self.new.fold ≡ self.old.fold }
         ensures surveyed { self.new.surveyed ≡ self.old.surveyed }
     {

@@ -5,7 +5,7 @@ ghost use Rattle.jp_model.specs.Meaning.Nodes.{root_node, subtree};
 ghost use Rattle.jp_model.specs.Steps.{Step as TreeStep};
 ghost use Rattle.jp_nodes.specs.Cursors.{node_of, place_of, root_of};
 ghost use Rattle.jp_strings.specs.Points.{IsText, points_of};
-ghost use Rattle.jp_survey.specs.Foldings.{folded_below, longer};
+ghost use Rattle.jp_survey.specs.Foldings.{folded_below, is_over, longer};
 ghost use Rattle.jp_survey.specs.Justified.{WithPath};
 ghost use Rattle.jp_survey.specs.Paths.{Line, member, strides_of, whole_line};
 ghost use Rattle.jp_survey.specs.Places.{has_path, path_at, stride_in};
@@ -311,9 +311,10 @@ impl Tree {
     }
 
     /// Folds the objects that have too many names.
-    fn fold_objects(&mut self) -> Result<(), AllocError>
+    pub(crate) fn fold_objects(&mut self) -> Result<(), AllocError>
         requires { IsTree self.old }
         ensures tree { OnOk result (IsTree self.new) }
+        ensures over { OnOk result ((place : ℕ) → place < length (links_of self.new) → is_over self.new.fold (links_of self.new) place ≡ false) }
         ensures seen { (fold : ℕ) (lines : List Line) → HasSeen fold lines self.old → OnOk result (HasSeen fold lines self.new) }
     {
         if !self.links.has_over(self.fold) {

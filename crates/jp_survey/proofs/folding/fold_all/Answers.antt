@@ -1,23 +1,32 @@
--- Turns chain, and once no object is to be folded no member is told from the others of its object.
-use Rattle.jp_survey.proofs.FoldTurns.{apart_where_none}
-use Rattle.jp_survey.proofs.Refolding.{refolds_on}
+-- All places have moved, and then no object is to be folded.
+use Rattle.std.proofs.Common.{◌∙◌, ℕ, List, length, subst}
+use Rattle.jp_survey.specs.Counts.{Joined}
+use Rattle.jp_survey.specs.Movings.{HaveMoved}
+use Rattle.jp_survey.specs.Places.{ArePlaces}
+use Rattle.jp_survey.proofs.Justified.{justified_moved}
+use Rattle.jp_survey.proofs.Moving.{have_moved}
+use Rattle.jp_survey.proofs.NoneOver.{apart_where_none}
+use Rattle.jp_survey.proofs.Refolding.{refolds_from}
 use Rattle.jp_survey.proofs.folding.fold_all.Goals as goal
 
-pub returns-then-not-has_over-clause-apart : goal.returns-then-not-has_over-clause-apart
-returns-then-not-has_over-clause-apart c names h =
-    apart_where_none c.args.fold names c.loop-turn.folded.links.links.keys (c.loop-turn.invariant.refolds names h).places (c.has_over.ensures c.if-not-has_over.true)
+moved : (c : goal.After-drop-order-2) (names : List (List ℕ)) → ArePlaces names c.args.links.now.links.keys
+    → HaveMoved c.args.fold names c.args.links.now.links.keys c.move_all.new.self.told.links.keys c.move_all.new.self.folded.links.keys c.in_ok-places.places.items
+moved c names h =
+    let links = c.args.links.now.links.keys in let now = c.move_all.new.self in
+    have_moved c.args.fold names links now.told.links.keys now.folded.links.keys now.places.items c.in_ok-places.places.items h
+    (c.in_ok-move_all.ensures.moving names h (c.in_ok-moving.ensures.moving c.args.fold names links h c.len.ensures)) (c.in_ok-places.ensures ∙ c.deref-2.ensures.value)
 
-pub returns-then-not-has_over-clause-over : goal.returns-then-not-has_over-clause-over
-returns-then-not-has_over-clause-over c = c.has_over.ensures c.if-not-has_over.true
+pub returns-clause-refolds : goal.returns-clause-refolds
+returns-clause-refolds c names h =
+    let links = c.args.links.now.links.keys in let now = c.move_all.new.self in let to = c.in_ok-places.places.items in
+    let old = c.args.counts.now.places.items in let new = c.in_ok-counts.counts.places.items in
+    refolds_from c.args.fold names links now.told.links.keys now.folded.links.keys to old new h (moved c names h)
+    (subst (λ (ps : List ℕ). Joined old new ps (length old)) c.deref-3.ensures.value c.in_ok-counts.ensures.joined) c.requires.counted (c.in_ok-counts.ensures.many ∙ c.len-2.ensures)
 
-pub loop-turn-preserved : goal.loop-turn-preserved
-loop-turn-preserved c = record {
-  linked = c.in_ok-folded-2.ensures.linked;
-  counted = c.in_ok-folded-2.ensures.counted;
-  refolds = λ names h.
-      let was = c.loop-turn.invariant.refolds names h in let old = c.loop-turn.folded in let new = c.in_ok-folded-2.folded in
-      refolds_on names c.args.links.now.links.keys old.links.links.keys new.links.links.keys c.args.counts.now.places.items old.counts.places.items new.counts.places.items
-      was (c.in_ok-folded-2.ensures.refolds names was.places);
-  justified = λ names h seen was.
-      c.in_ok-folded-2.ensures.justified names (c.loop-turn.invariant.refolds names h).places seen (c.loop-turn.invariant.justified names h seen was);
-}
+pub returns-clause-apart : goal.returns-clause-apart
+returns-clause-apart c names h =
+    apart_where_none c.args.fold names c.move_all.new.self.folded.links.keys (moved c names h).places (c.has_over.ensures c.if-has_over.false)
+
+pub returns-clause-justified : goal.returns-clause-justified
+returns-clause-justified c names h =
+    justified_moved c.args.fold names c.args.links.now.links.keys c.move_all.new.self.told.links.keys c.move_all.new.self.folded.links.keys c.in_ok-places.places.items h (moved c names h)

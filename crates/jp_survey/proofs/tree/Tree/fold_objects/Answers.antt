@@ -25,3 +25,6 @@ returns-clause-seen c fold lines was =
       counted = refolded_counted names links next old.counts.places.items new.counts.places.items lines old.lines (folded.refolds names tree.places) (folded.apart names tree.places) was.counted;
       justified = subst (λ (limit : ℕ). StayJustified limit names links next) was.limit (folded.justified names tree.places) (paths_in lines) was.justified;
     }
+
+pub returns-clause-over : goal.returns-clause-over
+returns-clause-over c = c.in_ok-folded.ensures.over
