@@ -21,6 +21,7 @@ pub mod GivenUp
 pub mod Around
 pub mod Appended
 pub mod Joining
+mod Knowing
 pub mod Batched
 pub mod Ends
 pub mod Advancing

@@ -24,6 +24,7 @@ pub mod Sizes
 pub mod Finding
 pub mod Searching
 pub mod Laws
+pub mod LineAnswers
 pub mod Once
 pub mod Ends
 pub mod Lists

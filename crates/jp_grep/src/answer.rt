@@ -93,13 +93,17 @@ impl<'q> Answerer<'q> {
         let Ok(nodes) = self.nodes_asked(&root, line, &mut room.asked) else {
             return Ok(Verdict::of_given_up());
         };
+        let room = &mut room.node;
+        if room.answers.begin(self.alloc, self.question).is_err() {
+            return Ok(Verdict::of_given_up());
+        }
         let mut selected = 0;
         for node in nodes {
             if selected == most {
                 break;
             }
             let asked = AskedNode { line, node: *node };
-            match self.answer_node(number, &asked, text, &mut room.node, outlet, out)? {
+            match self.answer_node(number, &asked, text, room, outlet, out)? {
                 Some(is_selected) => selected += u64::from(is_selected),
                 None => return Ok(Verdict::of_given_up()),
             }

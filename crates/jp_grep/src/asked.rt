@@ -6,6 +6,7 @@ ghost use Rattle.jp_children.specs.Found.{AreOf, node_list};
 ghost use Rattle.jp_columns.specs.Names.{text_of};
 ghost use Rattle.jp_eval.specs.Compiled.{program_view};
 ghost use Rattle.jp_eval.specs.Found.{found_in};
+ghost use Rattle.jp_eval.specs.Remembers.{Remembers};
 ghost use Rattle.jp_lines.specs.Views.{text_of_view, tree_of_view};
 ghost use Rattle.jp_model.specs.Meaning.Selecting.{nodes, path_nodes, start};
 ghost use Rattle.jp_model.specs.Query.Syntax.{child_segment, name_selector, no_selectors, path, selector};
@@ -13,8 +14,10 @@ ghost use Rattle.jp_nodes.specs.Cursors.{line_of, node_of};
 ghost use Rattle.jp_syntax.specs.View.{origin_view, segment_view, segments_view};
 ghost use Rattle.jp_types.specs.Checks.{checked_view};
 ghost use Rattle.jp_grep.specs.Asked.{IsOfItsLine, after_name, asked_tree, first_name, query_path};
+ghost use Rattle.jp_grep.specs.LineAnswers.{KnowsQuery};
 ghost use Rattle.jp_grep.specs.Matching.{has_nodes};
 
+use crate::line_answers::LineAnswer;
 use jp_children::find_member;
 use jp_eval::{Frame, Program};
 use jp_lines::LineView;
@@ -134,43 +137,118 @@ impl AskedQuery {
         }
     }
 
-    /// Finds the nodes that it selects, and tells whether there is one. The frame has them then.
-    pub(crate) fn find<'a>(
+    /// Finds the nodes that it selects. The frame has them then. What it asks of the root of the line is asked once.
+    pub(crate) fn find_again<'a>(
         &self,
         alloc: Global,
         asked: &AskedNode<'a>,
         frame: &mut Frame<'a>,
-    ) -> Result<bool, AllocError>
-        requires { IsOfItsLine asked.now }
-        ensures some { IfOk result (λ some. some ≡ has_nodes (path_nodes (query_path self.now) (node_of asked.now.node) (asked_tree asked.now))) }
+    ) -> Result<(), AllocError>
+        requires node { IsOfItsLine asked.now }
+        requires remembers { Remembers self.now.program (text_of_view asked.now.line) frame.old }
         ensures nodes { OnOk result (map node_of (found_in frame.new) ≡ path_nodes (query_path self.now) (node_of asked.now.node) (asked_tree asked.now)) }
         ensures lines { AreOf (text_of_view asked.now.line) (found_in frame.new) }
+        ensures remembers { OnOk result (Remembers self.now.program (text_of_view asked.now.line) frame.new) }
     {
-        let Some(start) = self.begin(asked) else {
-            // The frame's room may go: only columns begin at a member, and cells are not found here.
-            *frame = Frame::new(alloc);
-            return Ok(false);
-        };
-        self.program.run_in(alloc, start, asked.line.root(), frame)?;
-        Ok(!frame.found().is_empty())
+        let start = self.begin(asked);
+        self.find_from(alloc, start, asked, frame)
     }
 
-    /// Whether it selects a node. It stops at the first.
+    /// Finds the nodes that it selects, where its program begins at a node, or at none.
+    pub(crate) fn find_from<'a>(
+        &self,
+        alloc: Global,
+        start: Option<Cursor<'a>>,
+        asked: &AskedNode<'a>,
+        frame: &mut Frame<'a>,
+    ) -> Result<(), AllocError>
+        requires node { IsOfItsLine asked.now }
+        requires start { nodes (program_view self.now.program) (node_list start) (asked_tree asked.now) ≡ path_nodes (query_path self.now) (node_of asked.now.node) (asked_tree asked.now) }
+        requires line { IfSome start (λ c. line_of c ≡ text_of_view asked.now.line) }
+        requires remembers { Remembers self.now.program (text_of_view asked.now.line) frame.old }
+        ensures nodes { OnOk result (map node_of (found_in frame.new) ≡ path_nodes (query_path self.now) (node_of asked.now.node) (asked_tree asked.now)) }
+        ensures lines { AreOf (text_of_view asked.now.line) (found_in frame.new) }
+        ensures remembers { OnOk result (Remembers self.now.program (text_of_view asked.now.line) frame.new) }
+    {
+        match start {
+            Some(start) => self
+                .program
+                .run_again(alloc, start, asked.line.root(), frame),
+            None => {
+                frame.forget();
+                Ok(())
+            }
+        }
+    }
+
+    /// Finds the nodes that it selects, where its program begins at a node, or at none. The frame of the answer has them then.
+    pub(crate) fn answer_from<'a>(
+        &self,
+        alloc: Global,
+        start: Option<Cursor<'a>>,
+        asked: &AskedNode<'a>,
+        answer: &mut LineAnswer<'a>,
+    ) -> Result<(), AllocError>
+        requires node { IsOfItsLine asked.now }
+        requires start { nodes (program_view self.now.program) (node_list start) (asked_tree asked.now) ≡ path_nodes (query_path self.now) (node_of asked.now.node) (asked_tree asked.now) }
+        requires line { IfSome start (λ c. line_of c ≡ text_of_view asked.now.line) }
+        requires knows { KnowsQuery (text_of_view asked.now.line) self.now answer.old }
+        ensures nodes { OnOk result (map node_of (found_in answer.new.frame) ≡ path_nodes (query_path self.now) (node_of asked.now.node) (asked_tree asked.now)) }
+        ensures lines { OnOk result (AreOf (text_of_view asked.now.line) (found_in answer.new.frame)) }
+        ensures knows { OnOk result (KnowsQuery (text_of_view asked.now.line) self.now answer.new) }
+    {
+        self.find_from(alloc, start, asked, &mut answer.frame)?;
+        answer.is_found = self.origin == Origin::Root;
+        Ok(())
+    }
+
+    /// Finds the nodes that it selects, and tells whether there is one. The frame of the answer has them then. One that begins at
+    /// the root of the line is asked once in the line.
+    pub(crate) fn find<'a>(
+        &self,
+        alloc: Global,
+        asked: &AskedNode<'a>,
+        answer: &mut LineAnswer<'a>,
+    ) -> Result<bool, AllocError>
+        requires node { IsOfItsLine asked.now }
+        requires knows { KnowsQuery (text_of_view asked.now.line) self.now answer.old }
+        ensures some { IfOk result (λ some. some ≡ has_nodes (path_nodes (query_path self.now) (node_of asked.now.node) (asked_tree asked.now))) }
+        ensures nodes { OnOk result (map node_of (found_in answer.new.frame) ≡ path_nodes (query_path self.now) (node_of asked.now.node) (asked_tree asked.now)) }
+        ensures lines { OnOk result (AreOf (text_of_view asked.now.line) (found_in answer.new.frame)) }
+        ensures knows { OnOk result (KnowsQuery (text_of_view asked.now.line) self.now answer.new) }
+    {
+        if !answer.is_found {
+            let start = self.begin(asked);
+            self.answer_from(alloc, start, asked, answer)?;
+        }
+        Ok(!answer.frame.found().is_empty())
+    }
+
+    /// Whether it selects a node. It stops at the first. One that begins at the root of the line is asked once in the line.
     #[inline(always)]
     pub(crate) fn selects<'a>(
         &self,
         alloc: Global,
         asked: &AskedNode<'a>,
-        frame: &mut Frame<'a>,
+        answer: &mut LineAnswer<'a>,
     ) -> Result<bool, AllocError>
-        requires { IsOfItsLine asked.now }
-        ensures { IfOk result (λ some. some ≡ has_nodes (path_nodes (query_path self.now) (node_of asked.now.node) (asked_tree asked.now))) }
+        requires node { IsOfItsLine asked.now }
+        requires knows { KnowsQuery (text_of_view asked.now.line) self.now answer.old }
+        ensures some { IfOk result (λ some. some ≡ has_nodes (path_nodes (query_path self.now) (node_of asked.now.node) (asked_tree asked.now))) }
+        ensures knows { OnOk result (KnowsQuery (text_of_view asked.now.line) self.now answer.new) }
     {
-        match self.begin(asked) {
-            Some(start) => self
-                .program
-                .selects_in(alloc, start, asked.line.root(), frame),
-            None => Ok(false),
+        if let Some(some) = answer.known {
+            return Ok(some);
         }
+        let Some(start) = self.begin(asked) else {
+            return Ok(false);
+        };
+        answer.is_found = false;
+        let (root, frame) = (asked.line.root(), &mut answer.frame);
+        let some = self.program.selects_again(alloc, start, root, frame)?;
+        if self.origin == Origin::Root {
+            answer.known = Some(some);
+        }
+        Ok(some)
     }
 }

@@ -1,13 +1,18 @@
 //! What has to hold of a node that is asked.
 
-ghost use Rattle.std.specs.Prelude.{◌≡◌, IfOk};
+ghost use Rattle.std.specs.Prelude.{◌≡◌, IfOk, OnOk};
+ghost use Rattle.jp_eval.specs.Remembers.{Remembers};
+ghost use Rattle.jp_lines.specs.Views.{text_of_view};
 ghost use Rattle.jp_nodes.specs.Cursors.{node_of};
-ghost use Rattle.jp_grep.specs.Asked.{IsOfItsLine, asked_tree};
-ghost use Rattle.jp_grep.specs.Conditions.{condition_holds, condition_view};
+ghost use Rattle.jp_grep.specs.Asked.{IsOfItsLine, asked_tree, query_path};
+ghost use Rattle.jp_grep.specs.Conditions.{condition_holds, condition_view, is_listed};
+ghost use Rattle.jp_grep.specs.LineAnswers.{KnowsCondition};
 
 use crate::asked::{AskedNode, AskedQuery};
+use crate::line_answers::LineAnswer;
 use jp_eval::{Frame, Predicate};
 use jp_listed::Listed;
+use jp_syntax::Origin;
 use std::alloc::{AllocError, Global};
 
 /// What has to hold of a node that is asked.
@@ -24,32 +29,57 @@ pub(crate) enum Condition {
     },
 }
 
+/// Whether the value of a query is one of a list.
+fn is_member<'a>(
+    alloc: Global,
+    asked: &AskedNode<'a>,
+    query: &AskedQuery,
+    listed: &Listed,
+    frame: &mut Frame<'a>,
+) -> Result<bool, AllocError>
+    requires node { IsOfItsLine asked.now }
+    requires remembers { Remembers query.now.program (text_of_view asked.now.line) frame.old }
+    ensures member { IfOk result (λ member. member ≡ is_listed (query_path query.now) listed.now (node_of asked.now.node) (asked_tree asked.now)) }
+    ensures remembers { OnOk result (Remembers query.now.program (text_of_view asked.now.line) frame.new) }
+{
+    query.find_again(alloc, asked, frame)?;
+    let found = frame.found();
+    if found.len() != 1 {
+        return Ok(false);
+    }
+    listed.has(alloc, found[0])
+}
+
 impl Condition {
-    /// Whether it holds of a node.
+    /// Whether it holds of a node. What asks the root of its line alone is asked once in the line.
     pub(crate) fn holds<'a>(
         &self,
         alloc: Global,
         asked: &AskedNode<'a>,
-        frame: &mut Frame<'a>,
+        answer: &mut LineAnswer<'a>,
     ) -> Result<bool, AllocError>
-        requires { IsOfItsLine asked.now }
-        ensures { IfOk result (λ answer. answer ≡ condition_holds (condition_view self.now) (node_of asked.now.node) (asked_tree asked.now)) }
+        requires node { IsOfItsLine asked.now }
+        requires knows { KnowsCondition (text_of_view asked.now.line) self.now answer.old }
+        ensures truth { IfOk result (λ truth. truth ≡ condition_holds (condition_view self.now) (node_of asked.now.node) (asked_tree asked.now)) }
+        ensures knows { OnOk result (KnowsCondition (text_of_view asked.now.line) self.now answer.new) }
     {
+        if let Some(known) = answer.known {
+            return Ok(known);
+        }
         match self {
             Condition::Expression(predicate) => {
-                predicate.holds_in(alloc, asked.node, asked.line.root(), frame)
+                predicate.holds_again(alloc, asked.node, asked.line.root(), &mut answer.frame)
             }
             Condition::Membership {
                 query,
                 listed,
                 wanted,
             } => {
-                query.find(alloc, asked, frame)?;
-                let found = frame.found();
-                if found.len() != 1 {
-                    return Ok(!*wanted);
+                let holds = is_member(alloc, asked, query, listed, &mut answer.frame)? == *wanted;
+                if query.origin == Origin::Root {
+                    answer.known = Some(holds);
                 }
-                Ok(listed.has(alloc, found[0])? == *wanted)
+                Ok(holds)
             }
         }
     }

@@ -29,6 +29,7 @@ fn hold(cutter: &mut Cutter, bytes: &[u8]) -> Result<(), SearchFault>
     ensures few { length cutter.new.held.items < 2 ^ 32 }
     ensures fault { IfErr result (λ fault. is_inner_fault fault ≡ true) }
     ensures size { IfErr result (λ fault. fault ≡ faults.Size → 2 ^ 32 ≤ held_len cutter.old + length bytes.now) }
+    ensures large { IfErr result (λ fault. 2 ^ 32 ≤ held_len cutter.old + length bytes.now → fault ≡ faults.Size) }
 {
     if u32::MAX as usize - cutter.held_len() < bytes.len() {
         return Err(SearchFault::Size);

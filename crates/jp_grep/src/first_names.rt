@@ -1,6 +1,6 @@
 //! The members of the names that the queries of a table begin with, found together where they are many.
 
-ghost use Rattle.std.specs.Prelude.{◌≡◌, ℕ, IfOk, IfSome, List, OnOk, map};
+ghost use Rattle.std.specs.Prelude.{◌≡◌, IfOk, IfSome, OnOk, map};
 ghost use Rattle.std.specs.Option.{ForSome};
 ghost use Rattle.jp_children.specs.Found.{node_list};
 ghost use Rattle.jp_columns.specs.Columns.{names_of};
@@ -10,9 +10,11 @@ ghost use Rattle.jp_model.specs.Meaning.Selecting.{nodes, path_nodes};
 ghost use Rattle.jp_nodes.specs.Cursors.{line_of, node_of};
 ghost use Rattle.jp_syntax.specs.View.{origin_view};
 ghost use Rattle.jp_grep.specs.Asked.{IsOfItsLine, asked_tree, first_name, query_path};
+ghost use Rattle.jp_grep.specs.LineAnswers.{KnowsMembers};
 ghost use Rattle.jp_grep.specs.Members.{AreFound, AreMembers, IsFoundOf, found_by};
 
 use crate::asked::{AskedNode, AskedQuery};
+use crate::question::Question;
 use jp_columns::ColumnNames;
 use jp_nodes::Cursor;
 use jp_syntax::Origin;
@@ -71,6 +73,8 @@ impl FirstNames {
 /// where they are not found together.
 #[derive(Drop)]
 pub(crate) struct Members<'r> {
+    /// Whether those of the root of the line at hand are found.
+    pub(crate) is_root_found: bool,
     pub(crate) of_root: Vec<Option<Cursor<'r>>>,
     pub(crate) of_current: Vec<Option<Cursor<'r>>>,
 }
@@ -96,21 +100,24 @@ impl<'r> Members<'r> {
     /// With nothing found.
     pub(crate) fn new(alloc: Global) -> Members<'r> {
         Members {
+            is_root_found: false,
             of_root: Vec::new(alloc),
             of_current: Vec::new(alloc),
         }
     }
 
-    /// Finds the members of a node and of the root of its line, in place of those that were found before.
+    /// Finds the members of a node, and of the root of its line once in the line, in place of those that were found before.
     ///
     /// If memory is refused, the answer is `AllocError`.
     pub(crate) fn find(
         &mut self,
-        first_names: Option<&FirstNames>,
+        question: &Question,
         asked: &AskedNode<'r>,
     ) -> Result<(), AllocError>
-        requires { IsOfItsLine asked.now }
-        ensures { (names : List (List ℕ)) → ForSome first_names.entry (λ first_names. names_of first_names.now.names ≡ names) → OnOk result (AreFound names asked.now self.new) }
+        requires node { IsOfItsLine asked.now }
+        requires knows { KnowsMembers question.now (text_of_view asked.now.line) self.old }
+        ensures found { OnOk result (AreFound (map first_name question.now.queries.items) asked.now self.new) }
+        ensures knows { OnOk result (KnowsMembers question.now (text_of_view asked.now.line) self.new) }
     {
         let Some(
             FirstNames {
@@ -118,13 +125,16 @@ impl<'r> Members<'r> {
                 of_root,
                 of_current,
             },
-        ) = first_names
+        ) = &question.first_names
         else {
             self.of_root.clear();
             self.of_current.clear();
             return Ok(());
         };
-        find_members(*of_root, names, asked.line.root(), &mut self.of_root)?;
+        if !self.is_root_found {
+            find_members(*of_root, names, asked.line.root(), &mut self.of_root)?;
+            self.is_root_found = true;
+        }
         find_members(*of_current, names, asked.node, &mut self.of_current)?;
         Ok(())
     }

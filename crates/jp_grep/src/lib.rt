@@ -26,6 +26,7 @@ mod header;
 mod input;
 mod items;
 pub mod laws;
+mod line_answers;
 mod list;
 mod marks;
 mod node;

@@ -5,6 +5,7 @@ ghost use Rattle.jp_model.specs.Json.Tree.{span};
 ghost use Rattle.jp_model.specs.Meaning.Nodes.{Node};
 ghost use Rattle.jp_nodes.specs.Cursors.{node_of};
 ghost use Rattle.jp_lines.specs.Views.{text_of_view};
+ghost use Rattle.jp_grep.specs.LineAnswers.{Knows};
 ghost use Rattle.jp_grep.specs.Asked.{IsOfItsLine, asked_tree};
 ghost use Rattle.jp_grep.specs.Rows.{marks_of, whole_marked};
 
@@ -35,14 +36,17 @@ impl<'q> Answerer<'q> {
         asked: &AskedNode<'r>,
         room: &mut NodeRoom<'r>,
     ) -> Result<(), AllocError>
-        requires { IsOfItsLine asked.now }
+        requires node { IsOfItsLine asked.now }
+        requires knows { Knows self.question.now (text_of_view asked.now.line) room.old.answers }
         ensures marks { OnOk result (room.new.marks.items ≡ marks_of self.entry.question.now (asked_tree asked.now) (node_of asked.now.node)) }
         ensures row { room.new.row ≡ room.old.row }
+        ensures knows { OnOk result (Knows self.entry.question.now (text_of_view asked.now.line) room.new.answers) }
     {
         room.marks.clear();
-        for query in &self.question.queries {
-            query.find(self.alloc, asked, &mut room.frame)?;
-            push_spans(room.frame.found(), &mut room.marks)?;
+        for (index, query) in self.question.queries.iter().enumerate() {
+            let answer = &mut room.answers.queries[index];
+            query.find(self.alloc, asked, answer)?;
+            push_spans(answer.frame.found(), &mut room.marks)?;
         }
         Ok(())
     }
@@ -56,7 +60,9 @@ impl<'q> Answerer<'q> {
     ) -> Result<(), AllocError>
         requires node { IsOfItsLine asked.now }
         requires text { text_of_view asked.now.line ≡ text.now }
-        ensures { OnOk result (room.new.row.items ≡ room.old.row.items ++ whole_marked self.entry.form.now.units (marks_of self.entry.question.now (asked_tree asked.now) (node_of asked.now.node)) text.now (asked_tree asked.now)) }
+        requires knows { Knows self.question.now (text_of_view asked.now.line) room.old.answers }
+        ensures marked { OnOk result (room.new.row.items ≡ room.old.row.items ++ whole_marked self.entry.form.now.units (marks_of self.entry.question.now (asked_tree asked.now) (node_of asked.now.node)) text.now (asked_tree asked.now)) }
+        ensures knows { OnOk result (Knows self.entry.question.now (text_of_view asked.now.line) room.new.answers) }
     {
         self.list_marks(asked, room)?;
         let root = asked.line.root();

@@ -1,10 +1,11 @@
 //! The answer of a node: its rows, where it is selected.
 
-ghost use Rattle.std.specs.Prelude.{◌≡◌, ◌++◌, [], false, true, is_some, map, IfOk, MatchOption, OnOk, ⊤, if◌then◌else◌};
+ghost use Rattle.std.specs.Prelude.{◌≡◌, ◌++◌, [], false, true, is_some, map, IfOk, IfSome, MatchOption, OnOk, ⊤, if◌then◌else◌};
 ghost use Rattle.jp_nodes.specs.Cursors.{node_of};
 ghost use Rattle.jp_children.specs.Found.{AreOf};
 ghost use Rattle.jp_lines.specs.Views.{text_of_view, tree_of_view};
 ghost use Rattle.jp_form.specs.declared.form.Shown.TheVariants as shown;
+ghost use Rattle.jp_grep.specs.LineAnswers.{Knows};
 ghost use Rattle.jp_grep.specs.Asked.{IsOfItsLine, asked_tree};
 ghost use Rattle.jp_grep.specs.Holding.{TellsOfWriter};
 ghost use Rattle.jp_grep.specs.Matching.{is_selected, nodes_of, queries_of, selects, wants_nodes};
@@ -54,7 +55,8 @@ impl<'q> Answerer<'q> {
         room: &mut NodeRoom<'r>,
     ) -> Result<(), AllocError>
         requires { text_of_view line ≡ text.now }
-        ensures { OnOk result (room.new.row.items ≡ room.old.row.items ++ line_text self.entry.form.now.spelling self.entry.form.now.units text.now (tree_of_view line.entry)) }
+        ensures row { OnOk result (room.new.row.items ≡ room.old.row.items ++ line_text self.entry.form.now.spelling self.entry.form.now.units text.now (tree_of_view line.entry)) }
+        ensures answers { room.new.answers ≡ room.old.answers }
     {
         let (units, row) = (self.form.units, &mut room.row);
         match self.form.spelling {
@@ -77,7 +79,9 @@ impl<'q> Answerer<'q> {
     ) -> Result<(), AllocError>
         requires node { IsOfItsLine asked.now }
         requires text { text_of_view asked.now.line ≡ text.now }
-        ensures { OnOk result (room.new.row.items ≡ room.old.row.items ++ row self.entry.form.now number (shown_line self.entry.question.now self.entry.form.now text.now (asked_tree asked.now) (node_of asked.now.node))) }
+        requires knows { Knows self.question.now (text_of_view asked.now.line) room.old.answers }
+        ensures row { OnOk result (room.new.row.items ≡ room.old.row.items ++ row self.entry.form.now number (shown_line self.entry.question.now self.entry.form.now text.now (asked_tree asked.now) (node_of asked.now.node))) }
+        ensures knows { OnOk result (Knows self.entry.question.now (text_of_view asked.now.line) room.new.answers) }
     {
         add_front(b':', self.form, number, &mut room.row)?;
         if self.form.marked {
@@ -95,13 +99,15 @@ impl<'q> Answerer<'q> {
         asked: &AskedNode<'r>,
         room: &mut NodeRoom<'r>,
     ) -> Result<bool, AllocError>
-        requires { IsOfItsLine asked.now }
+        requires node { IsOfItsLine asked.now }
+        requires knows { Knows self.question.now (text_of_view asked.now.line) room.old.answers }
         ensures wanted { IfOk result (λ wanted. wanted ≡ wants_nodes self.entry.question.now (node_of asked.now.node) (asked_tree asked.now)) }
         ensures row { room.new.row ≡ room.old.row }
+        ensures knows { OnOk result (Knows self.entry.question.now (text_of_view asked.now.line) room.new.answers) }
     {
         match self.question.wanted {
-            Wanted::Matching => self.question.all_hold(self.alloc, asked, &mut room.frame),
-            Wanted::Others => Ok(!self.question.matches(self.alloc, asked, &mut room.frame)?),
+            Wanted::Matching => self.question.all_hold(self.alloc, asked, &mut room.answers),
+            Wanted::Others => Ok(!self.question.matches(self.alloc, asked, &mut room.answers)?),
             Wanted::Refused => Ok(false),
         }
     }
@@ -114,10 +120,12 @@ impl<'q> Answerer<'q> {
         asked: &AskedNode<'r>,
         room: &mut NodeRoom<'r>,
     ) -> Result<bool, AllocError>
-        requires { IsOfItsLine asked.now }
+        requires node { IsOfItsLine asked.now }
+        requires knows { Knows self.question.now (text_of_view asked.now.line) room.old.answers }
         ensures selected { IfOk result (λ selected. selected ≡ is_selected self.entry.question.now (asked_tree asked.now) (node_of asked.now.node)) }
         ensures row { OnOk result (room.new.row.items ≡ room.old.row.items ++ (if is_selected self.entry.question.now (asked_tree asked.now) (node_of asked.now.node)
             then table_row table (queries_of self.entry.question.now) self.entry.form.now number (text_of_view asked.now.line) (asked_tree asked.now) (node_of asked.now.node) else [])) }
+        ensures knows { OnOk result (Knows self.entry.question.now (text_of_view asked.now.line) room.new.answers) }
     {
         if !self.wants_nodes(asked, room)? {
             return Ok(false);
@@ -142,11 +150,13 @@ impl<'q> Answerer<'q> {
     ) -> Result<bool, AllocError>
         requires node { IsOfItsLine asked.now }
         requires text { text_of_view asked.now.line ≡ text.now }
+        requires knows { Knows self.question.now (text_of_view asked.now.line) room.old.answers }
         ensures selected { IfOk result (λ selected. selected ≡ is_selected self.entry.question.now (asked_tree asked.now) (node_of asked.now.node)) }
         ensures row { OnOk result (room.new.row.items ≡ room.old.row.items ++ (if is_selected self.entry.question.now (asked_tree asked.now) (node_of asked.now.node)
             then (if shown then row self.entry.form.now number (shown_line self.entry.question.now self.entry.form.now text.now (asked_tree asked.now) (node_of asked.now.node)) else []) else [])) }
+        ensures knows { OnOk result (Knows self.entry.question.now (text_of_view asked.now.line) room.new.answers) }
     {
-        let matching = self.question.matches(self.alloc, asked, &mut room.frame)?;
+        let matching = self.question.matches(self.alloc, asked, &mut room.answers)?;
         if !self.question.wanted.wants_value(matching) {
             return Ok(false);
         }
@@ -167,9 +177,11 @@ impl<'q> Answerer<'q> {
     ) -> Result<bool, AllocError>
         requires node { IsOfItsLine asked.now }
         requires text { text_of_view asked.now.line ≡ text.now }
+        requires knows { Knows self.question.now (text_of_view asked.now.line) room.old.answers }
         ensures selected { IfOk result (λ selected. selected ≡ is_selected self.entry.question.now (asked_tree asked.now) (node_of asked.now.node)) }
         ensures row { OnOk result (room.new.row.items ≡ (if is_selected self.entry.question.now (asked_tree asked.now) (node_of asked.now.node)
             then row_told true number (row self.entry.form.now number (shown_line self.entry.question.now self.entry.form.now text.now (asked_tree asked.now) (node_of asked.now.node))) else [])) }
+        ensures knows { OnOk result (Knows self.entry.question.now (text_of_view asked.now.line) room.new.answers) }
     {
         room.row.clear();
         if !self.make_line_row(true, number, asked, text, room)? {
@@ -191,9 +203,11 @@ impl<'q> Answerer<'q> {
     ) -> Result<bool, AllocError>
         requires node { IsOfItsLine asked.now }
         requires text { text_of_view asked.now.line ≡ text.now }
+        requires knows { Knows self.question.now (text_of_view asked.now.line) room.old.answers }
         ensures selected { IfOk result (λ selected. selected ≡ is_selected self.entry.question.now (asked_tree asked.now) (node_of asked.now.node)) }
         ensures row { OnOk result (room.new.row.items ≡ (if is_selected self.entry.question.now (asked_tree asked.now) (node_of asked.now.node)
             then row_at_once self.entry.form.now.shown self.entry.question.now self.entry.form.now number text.now (asked_tree asked.now) (node_of asked.now.node) else [])) }
+        ensures knows { OnOk result (Knows self.entry.question.now (text_of_view asked.now.line) room.new.answers) }
     {
         room.row.clear();
         match self.form.shown {
@@ -251,14 +265,17 @@ impl<'q> Answerer<'q> {
         requires node { IsOfItsLine asked.now }
         requires text { text_of_view asked.now.line ≡ text.now }
         requires working { out.old.failed ≡ false }
+        requires knows { Knows self.question.now (text_of_view asked.now.line) room.old.answers }
         ensures rows { PutsFirst W.contents out.old out.new outlet.old.held.items outlet.new.held.items result is_some
             (map (value_row self.entry.form.now paths number text.now) (nodes_of (queries_of self.entry.question.now) (node_of asked.now.node) (asked_tree asked.now))) }
         ensures some { IfOk result (λ answer. MatchOption answer ⊤ (λ some. some ≡ selects (queries_of self.entry.question.now) (node_of asked.now.node) (asked_tree asked.now))) }
         ensures tells { TellsOfWriter result out.old out.new }
+        ensures knows { IfOk result (λ answer. IfSome answer (λ selected. Knows self.entry.question.now (text_of_view asked.now.line) room.new.answers)) }
     {
         let mut some = false;
-        for query in &self.question.queries {
-            let Ok(found) = query.find(self.alloc, asked, &mut room.frame) else {
+        for (index, query) in self.question.queries.iter().enumerate() {
+            let answer = &mut room.answers.queries[index];
+            let Ok(found) = query.find(self.alloc, asked, answer) else {
                 return Ok(None);
             };
             some |= found;
@@ -266,7 +283,7 @@ impl<'q> Answerer<'q> {
                 paths,
                 number,
                 text,
-                room.frame.found(),
+                answer.frame.found(),
                 &mut room.speller,
                 &mut room.row,
                 outlet,
@@ -295,8 +312,10 @@ impl<'q> Answerer<'q> {
         requires node { IsOfItsLine asked.now }
         requires text { text_of_view asked.now.line ≡ text.now }
         requires working { out.old.failed ≡ false }
+        requires knows { Knows self.question.now (text_of_view asked.now.line) room.old.answers }
         ensures answers { AnswersNode W.contents self.entry.question.now self.entry.form.now number text.now out.old out.new outlet.old.held.items outlet.new.held.items result (asked_tree asked.now) (node_of asked.now.node) }
         ensures tells { TellsOfWriter result out.old out.new }
+        ensures knows { IfOk result (λ answer. IfSome answer (λ selected. Knows self.entry.question.now (text_of_view asked.now.line) room.new.answers)) }
     {
         match self.wants_nodes(asked, room) {
             Ok(true) => {}
@@ -322,8 +341,10 @@ impl<'q> Answerer<'q> {
         requires node { IsOfItsLine asked.now }
         requires text { text_of_view asked.now.line ≡ text.now }
         requires working { out.old.failed ≡ false }
+        requires knows { Knows self.question.now (text_of_view asked.now.line) room.old.answers }
         ensures answers { AnswersNode W.contents self.entry.question.now self.entry.form.now number text.now out.old out.new outlet.old.held.items outlet.new.held.items result (asked_tree asked.now) (node_of asked.now.node) }
         ensures tells { TellsOfWriter result out.old out.new }
+        ensures knows { IfOk result (λ answer. IfSome answer (λ selected. Knows self.entry.question.now (text_of_view asked.now.line) room.new.answers)) }
     {
         if let Shown::Values { paths } = self.form.shown {
             return self.answer_nodes(paths, number, asked, text, room, outlet, out);

@@ -3,6 +3,7 @@
 ghost use Rattle.std.specs.Prelude.{◌≡◌, [], ◌∷◌, ◌++◌, IfOk, None, OnErr, OnOk, Some, map};
 ghost use Rattle.std.specs.Option.{ForSome};
 ghost use Rattle.jp_columns.specs.Columns.{names_of};
+ghost use Rattle.jp_lines.specs.Views.{text_of_view};
 ghost use Rattle.jp_model.specs.Query.Syntax.{path};
 ghost use Rattle.jp_nodes.specs.Cursors.{node_of};
 ghost use Rattle.jp_syntax.specs.View.{origin_view};
@@ -14,7 +15,8 @@ ghost use Rattle.jp_grep.specs.Conditions.{expression, membership};
 use crate::asked::{AskedNode, AskedQuery};
 use crate::condition::Condition;
 use crate::first_names::FirstNames;
-use jp_eval::{Frame, Predicate, Program};
+use crate::line_answers::LineAnswers;
+use jp_eval::{Predicate, Program};
 use jp_listed::Listed;
 use jp_syntax::Origin;
 use jp_types::{Checked, CheckedCondition};
@@ -121,6 +123,7 @@ pub struct Question {
 }
 
 impl Question {
+    ghost use Rattle.jp_grep.specs.LineAnswers.{Knows};
     ghost use Rattle.jp_grep.specs.Matching.{all_hold, conditions_of, each_of, let_match, matches, queries_of, selects, wants_found};
 
     /// Of lines, with no query and no condition yet.
@@ -247,13 +250,15 @@ impl Question {
         &self,
         alloc: Global,
         asked: &AskedNode<'a>,
-        frame: &mut Frame<'a>,
+        answers: &mut LineAnswers<'a>,
     ) -> Result<bool, AllocError>
-        requires { IsOfItsLine asked.now }
-        ensures { IfOk result (λ answer. answer ≡ all_hold (conditions_of self.now) (node_of asked.now.node) (asked_tree asked.now)) }
+        requires node { IsOfItsLine asked.now }
+        requires knows { Knows self.now (text_of_view asked.now.line) answers.old }
+        ensures knows { OnOk result (Knows self.now (text_of_view asked.now.line) answers.new) }
+        ensures truth { IfOk result (λ answer. answer ≡ all_hold (conditions_of self.now) (node_of asked.now.node) (asked_tree asked.now)) }
     {
-        for condition in &self.conditions {
-            if !condition.holds(alloc, asked, frame)? {
+        for (index, condition) in self.conditions.iter().enumerate() {
+            if !condition.holds(alloc, asked, &mut answers.conditions[index])? {
                 return Ok(false);
             }
         }
@@ -265,13 +270,15 @@ impl Question {
         &self,
         alloc: Global,
         asked: &AskedNode<'a>,
-        frame: &mut Frame<'a>,
+        answers: &mut LineAnswers<'a>,
     ) -> Result<bool, AllocError>
-        requires { IsOfItsLine asked.now }
-        ensures { IfOk result (λ answer. answer ≡ selects (queries_of self.now) (node_of asked.now.node) (asked_tree asked.now)) }
+        requires node { IsOfItsLine asked.now }
+        requires knows { Knows self.now (text_of_view asked.now.line) answers.old }
+        ensures knows { OnOk result (Knows self.now (text_of_view asked.now.line) answers.new) }
+        ensures truth { IfOk result (λ answer. answer ≡ selects (queries_of self.now) (node_of asked.now.node) (asked_tree asked.now)) }
     {
-        for query in &self.queries {
-            if query.selects(alloc, asked, frame)? {
+        for (index, query) in self.queries.iter().enumerate() {
+            if query.selects(alloc, asked, &mut answers.queries[index])? {
                 return Ok(true);
             }
         }
@@ -291,16 +298,18 @@ impl Question {
         &self,
         alloc: Global,
         asked: &AskedNode<'a>,
-        frame: &mut Frame<'a>,
+        answers: &mut LineAnswers<'a>,
     ) -> Result<bool, AllocError>
-        requires { IsOfItsLine asked.now }
-        ensures { IfOk result (λ answer. answer ≡ matches self.now (node_of asked.now.node) (asked_tree asked.now)) }
+        requires node { IsOfItsLine asked.now }
+        requires knows { Knows self.now (text_of_view asked.now.line) answers.old }
+        ensures knows { OnOk result (Knows self.now (text_of_view asked.now.line) answers.new) }
+        ensures truth { IfOk result (λ answer. answer ≡ matches self.now (node_of asked.now.node) (asked_tree asked.now)) }
     {
-        if !self.all_hold(alloc, asked, frame)? {
+        if !self.all_hold(alloc, asked, answers)? {
             return Ok(false);
         }
         match self.purpose {
-            Queries::Filter => self.selects(alloc, asked, frame),
+            Queries::Filter => self.selects(alloc, asked, answers),
             Queries::Columns => Ok(true),
         }
     }

@@ -3,7 +3,7 @@
 ghost use Rattle.std.specs.Prelude.{◌≡◌, OnOk};
 ghost use Rattle.jp_grep.specs.Rows.{row_told};
 
-use crate::first_names::Members;
+use crate::line_answers::LineAnswers;
 use crate::spelling::Speller;
 use jp_context::{Told, push_told};
 use jp_eval::Frame;
@@ -19,11 +19,11 @@ pub(crate) struct Room<'r> {
     pub(crate) node: NodeRoom<'r>,
 }
 
-/// The nodes that are found, what spells values, the row that is made, and where it is one of a table its cells.
+/// What was answered in the line, what spells values, the row that is made, and where it is one of a table its cells.
 #[derive(Drop)]
 pub(crate) struct NodeRoom<'r> {
-    pub(crate) frame: Frame<'r>,
-    pub(crate) members: Members<'r>,
+    /// What was answered in the line.
+    pub(crate) answers: LineAnswers<'r>,
     pub(crate) speller: Speller,
     pub(crate) row: Vec<u8>,
     /// That row with the head that it is told with.
@@ -41,8 +41,7 @@ impl<'r> Room<'r> {
         Room {
             asked: Frame::new(alloc),
             node: NodeRoom {
-                frame: Frame::new(alloc),
-                members: Members::new(alloc),
+                answers: LineAnswers::new(alloc),
                 speller: Speller::new(alloc),
                 row: Vec::new(alloc),
                 told: Vec::new(alloc),
@@ -57,7 +56,8 @@ impl<'r> Room<'r> {
 impl<'r> NodeRoom<'r> {
     /// Makes the row of a line a told one.
     pub(crate) fn tell(&mut self, is_selected: bool, number: u64) -> Result<(), AllocError>
-        ensures { OnOk result (self.new.row.items ≡ row_told is_selected number self.old.row.items) }
+        ensures row { OnOk result (self.new.row.items ≡ row_told is_selected number self.old.row.items) }
+        ensures answers { self.new.answers ≡ self.old.answers }
     {
         self.told.clear();
         let told = Told {

@@ -75,6 +75,7 @@ impl Stream {
         ensures first { self.new.is_first ≡ self.old.is_first }
         ensures fault { IfErr result (λ fault. is_inner_fault fault ≡ true) }
         ensures size { IfErr result (λ fault. fault ≡ faults.Size → 2 ^ 32 ≤ length self.old.held.items + length bytes.now) }
+        ensures large { IfErr result (λ fault. 2 ^ 32 ≤ length self.old.held.items + length bytes.now → fault ≡ faults.Size) }
     {
         if u32::MAX as usize - self.held.len() < bytes.len() {
             return Err(SearchFault::Size);

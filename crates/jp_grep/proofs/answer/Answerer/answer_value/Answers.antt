@@ -1,22 +1,23 @@
 -- The rows of one node come after those of the nodes before it.
 use Rattle.std.proofs.Common.{◌≡◌, ◌∙◌, ◌++◌, ◌+◌, ◌≤◌, ◌<◌, [], ◌∷◌, List, ℕ, Bool, true, false, Option, None, Some, drop, filter, flat_map, get_or, length, length-append, map, take, take-append-drop, append_assoc, refl, sym, ap, subst, arith, cond}
-use Rattle.std.specs.Prelude.{MatchOption, is_some, ⊤}
+use Rattle.std.specs.Prelude.{IfSome, MatchOption, is_some, ⊤}
 use Rattle.std.specs.List.{concat}
 use Rattle.std.proofs.lemmas.List.{map-append, take_more, take_all}
 use Rattle.std.proofs.lemmas.List.Elements.{filter-append}
 use Rattle.std.proofs.lemmas.List.Folds.{concat-append}
 use Rattle.jp_model.specs.Meaning.Nodes.{Node}
-use Rattle.jp_lines.specs.Views.{tree_of_view}
+use Rattle.jp_lines.specs.Views.{text_of_view, tree_of_view}
 use Rattle.jp_nodes.specs.Cursors.{node_of}
 use Rattle.jp_nodes.specs.declared.cursor.Cursor.{Cursor}
 use Rattle.jp_grep.specs.Holding.{HoldsBack}
+use Rattle.jp_grep.specs.LineAnswers.{Knows}
 use Rattle.jp_grep.specs.Matching.{each_of, is_selected, nodes_asked}
 use Rattle.jp_grep.specs.Rows.{asked_rows}
 use Rattle.jp_grep.proofs.Asking.{all_count, all_wanted, enough_count, enough_wanted, first_rows, next_wanted}
 use Rattle.jp_grep.proofs.GivenUp.{no_answer}
 use Rattle.jp_grep.proofs.Putting.{both_put, ends_put, none_put, put_next}
 use Rattle.jp_grep.proofs.RowLists.{all_first, concat_around, first_written, part_of_rows}
-use Rattle.jp_grep.proofs.Written.{around, given_more}
+use Rattle.jp_grep.proofs.Written.{around, by_ok, given_more}
 use mir.Val.{bool_byte}
 use Rattle.jp_grep.proofs.answer.Answerer.answer_value.Goals.{else-loop-node-test, then-loop-node-test+then-selected-most}
 use Rattle.jp_grep.proofs.answer.Answerer.answer_value.Goals as goal
@@ -27,6 +28,26 @@ returns-in_default-clause-answers g c =
       given_up = Some 0;
       rows = none_put c.args.out.now c.args.outlet.now.held.items;
       verdict = record { selected = c.of_given_up.ensures.selected; refused = c.of_given_up.ensures.refused; given_up = c.of_given_up.ensures.given_up };
+    }
+
+pub returns-then-is_err-clause-answers : goal.returns-then-is_err-clause-answers
+returns-then-is_err-clause-answers g c =
+    record {
+      given_up = Some 0;
+      rows = none_put c.args.out.now c.args.outlet.now.held.items;
+      verdict = record { selected = c.of_given_up-then-is_err.ensures.selected; refused = c.of_given_up-then-is_err.ensures.refused; given_up = c.of_given_up-then-is_err.ensures.given_up };
+    }
+
+pub loop-node-init : goal.loop-node-init
+loop-node-init g c =
+    let line = text_of_view c.args.line in
+    record {
+      rows = none_put c.args.out.now c.args.outlet.now.held.items;
+      selected = refl;
+      wanted = omega arith;
+      working = c.requires.working;
+      after = refl;
+      knows = by_ok c.begin.result (Knows c.args.self.question.now line c.begin.new.self) (sym c.is_err.ensures.value ∙ c.if-is_err.false) (c.begin.ensures line);
     }
 
 -- the nodes before one, the node, and those after it
@@ -132,6 +153,7 @@ loop-node-preserved g c =
       wanted = omega (arith, c.loop-node.invariant.wanted, c.if-selected-most.false, c.from-selected.ensures, at_most_one c.in-Some.is_selected);
       working = c.in_ok-is_selected.ensures.tells.0;
       after = c.in_ok-is_selected.ensures.tells.2 ∙ c.loop-node.invariant.after;
+      knows = subst (λ (o : Option Bool). IfSome o (λ (b : Bool). Knows q (text_of_view c.args.line) c.answer_node.new.room.answers)) c.in-Some.is c.in_ok-is_selected.ensures.knows;
     }
 
 pub returns-clause-answers : goal.returns-clause-answers

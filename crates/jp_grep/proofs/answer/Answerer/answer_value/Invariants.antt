@@ -1,9 +1,10 @@
 -- The rows of the nodes so far were put, and those that are selected are counted.
 use Rattle.std.proofs.Common.{◌≡◌, ◌≤◌, filter, flat_map, length, map, take, false}
 use Rattle.std.specs.List.{concat}
-use Rattle.jp_lines.specs.Views.{tree_of_view}
+use Rattle.jp_lines.specs.Views.{text_of_view, tree_of_view}
 use Rattle.jp_nodes.specs.Cursors.{node_of}
 use Rattle.jp_grep.specs.Holding.{HoldsBack}
+use Rattle.jp_grep.specs.LineAnswers.{Knows}
 use Rattle.jp_grep.specs.Matching.{is_selected}
 use Rattle.jp_grep.specs.Rows.{asked_rows}
 use Rattle.jp_grep.proofs.answer.Answerer.answer_value.Given as goal
@@ -16,4 +17,5 @@ invariant-loop-node g l = record {
   wanted : l.selected ≤ l.most;
   working : l.out.failed ≡ false;
   after : l.out.after ≡ l.fn.out.after;
+  knows : Knows l.self.question.now (text_of_view l.line) l.room.answers;
 }

@@ -1,6 +1,5 @@
 -- The cell of one query comes after those of the queries before it.
 use Rattle.std.proofs.Common.{◌≡◌, ◌∙◌, ◌++◌, ◌+◌, ◌<◌, ℕ, List, [], ◌∷◌, ap, arith, refl, rules, sym, subst, append_assoc, get_or, length, map, take, decimal, ◌||◌}
-use Rattle.std.specs.Option.{option_copied}
 use Rattle.std.proofs.lemmas.Grind.{common_steps}
 use Rattle.std.proofs.lemmas.List.{get_or-map, map-append, take_more}
 use Rattle.jp_model.specs.Json.Tree.{Tree}
@@ -52,6 +51,7 @@ loop-index-preserved c =
           (c.in_ok-some.ensures.cell (front ++ before) c.loop-index.invariant.cells);
       some = ap (λ b. c.loop-index.some || b) c.in_ok-some.ensures.some ∙ ap (λ b. b || has_nodes (path_nodes (query_path query) node t)) c.loop-index.invariant.some ∙ sym (selects_more queries i query node t within is);
       members = subst (AreFound (map first_name queries) c.args.asked.now) (sym c.in_ok-some.ensures.members) c.loop-index.invariant.members;
+      knows = c.in_ok-some.ensures.knows;
       row = c.in_ok-some.ensures.row ∙ c.loop-index.invariant.row;
     }
 
@@ -61,7 +61,7 @@ add_cell-requires-clause-member c =
     let i = c.loop-index.index in
     let query = c.query-item.result in
     let asked = c.args.asked.now in
-    let members = c.loop-index.room.members in
+    let members = c.loop-index.room.answers.members in
     let queries = c.args.self.question.now.queries.items in
     let within : i < length queries = subst (λ l. i < length l) items c.loop-index-test.true in
     let is : query ≡ get_or queries i query = c.query-item.is ∙ ap (λ l. get_or l i query) items in
@@ -72,6 +72,7 @@ pub loop-index-init : goal.loop-index-init
 loop-index-init c = record {
   cells = grind (arith, common_steps);
   some = refl;
-  members = c.in_ok-find.ensures (map first_name c.args.self.question.now.queries.items) (λ found is. c.args.self.question.now.gathered found.now (sym c.as_ref.ensures.value ∙ ap option_copied is));
+  members = c.in_ok-find.ensures.found;
+  knows = record { conditions = c.requires.knows.conditions; queries = c.requires.knows.queries; members = c.in_ok-find.ensures.knows };
   row = search rules;
 }

@@ -9,14 +9,17 @@ use Rattle.jp_model.specs.Json.Tree.{Tree}
 use Rattle.jp_model.specs.Meaning.Nodes.{Node}
 use Rattle.jp_model.specs.Meaning.Selecting.{path_nodes}
 use Rattle.jp_model.specs.Query.Syntax.{Path}
+use Rattle.jp_lines.specs.Views.{text_of_view}
 use Rattle.jp_nodes.specs.Cursors.{node_of}
 use Rattle.jp_grep.specs.Asked.{asked_tree, query_path}
 use Rattle.jp_grep.specs.Holding.{HoldsBack}
+use Rattle.jp_grep.specs.LineAnswers.{KnowsQuery}
 use Rattle.jp_grep.specs.Matching.{has_nodes, nodes_of}
 use Rattle.jp_grep.specs.Rows.{value_row}
 use Rattle.jp_grep.specs.declared.asked.AskedQuery.{AskedQuery}
 use Rattle.jp_form.specs.declared.form.Form.{Form}
 use Rattle.jp_grep.proofs.GivenUp.{no_answer}
+use Rattle.jp_grep.proofs.Knowing.{item_at, known_at, query_known}
 use Rattle.jp_grep.proofs.Putting.{both_put, ends_put, put_next}
 use Rattle.jp_grep.proofs.RowLists.{all_first, concat_around, part_of_rows}
 use Rattle.jp_grep.proofs.Selecting.{selects_more}
@@ -66,35 +69,41 @@ module _ (form : Form) (paths : Bool) (n : ℕ) (text : List ℕ) (t : Tree) (no
       ∙ ap (λ (l : List (List ℕ)). l ++ rest) (sym (append_assoc front first others))
       ∙ append_assoc (front ++ first) others rest
 
+pub find-requires-clause-knows : goal.find-requires-clause-knows
+find-requires-clause-knows g c =
+    let queries = c.args.self.question.now.queries.items in
+    let at = item_at queries c.deref-query-items.ensures.value c.loop-index.index c.query-item.result c.loop-index-test.true c.query-item.is in
+    known_at (KnowsQuery (text_of_view c.args.asked.now.line)) queries c.loop-index.room.answers.queries.items c.loop-index.invariant.knows.queries c.loop-index.index c.query-item.result c.index_mut-answer.result.now at c.index_mut-answer.ensures.value
+
 pub returns-in_default-clause-rows : goal.returns-in_default-clause-rows
 returns-in_default-clause-rows g c =
     let items = c.deref-query-items.ensures.value in
-    let i = c.loop-query.query-index in
+    let i = c.loop-index.index in
     let query = c.query-item.result in
     let form = c.args.self.form.now in
     let t = asked_tree c.args.asked.now in
     let node = node_of c.args.asked.now.node in
     let queries = c.args.self.question.now.queries.items in
-    let within : i < length queries = subst (λ l. i < length l) items c.loop-query-test.true in
+    let within : i < length queries = subst (λ l. i < length l) items c.loop-index-test.true in
     let is = c.query-item.is ∙ ap (λ l. get_or l i query) items in
     record {
       first = rows_of form c.args.paths c.args.number c.args.text.now t node queries i query within is (take i queries);
       others = rows_of form c.args.paths c.args.number c.args.text.now t node queries i query within is (drop i queries);
       split = before_query form c.args.paths c.args.number c.args.text.now t node queries i query within is;
-      puts = c.loop-query.invariant.rows;
+      puts = c.loop-index.invariant.rows;
       all = λ e. absurd (false≢true e);
     }
 
 pub returns-in_err-whole-clause-rows : goal.returns-in_err-whole-clause-rows
 returns-in_err-whole-clause-rows g c =
     let items = c.deref-query-items.ensures.value in
-    let i = c.loop-query.query-index in
+    let i = c.loop-index.index in
     let query = c.query-item.result in
     let form = c.args.self.form.now in
     let t = asked_tree c.args.asked.now in
     let node = node_of c.args.asked.now.node in
     let queries = c.args.self.question.now.queries.items in
-    let within : i < length queries = subst (λ l. i < length l) items c.loop-query-test.true in
+    let within : i < length queries = subst (λ l. i < length l) items c.loop-index-test.true in
     let is = c.query-item.is ∙ ap (λ l. get_or l i query) items in
     let row_of = value_row form c.args.paths c.args.number c.args.text.now in
     let found : map node_of c.found.result.now ≡ path_nodes (query_path query) node t = ap (map node_of) c.found.ensures ∙ c.in-Ok.ensures.nodes in
@@ -103,28 +112,28 @@ returns-in_err-whole-clause-rows g c =
     let front = map row_of (nodes_of (map query_path (take i queries)) node t) in
     let mine = map row_of (path_nodes (query_path query) node t) in
     let rest = map row_of (nodes_of (map query_path (drop (i + 1) queries)) node t) in
-    let part = part_of_rows c.loop-query.out c.put_values.new.out c.loop-query.outlet.held.items c.put_values.new.outlet.held.items (map row_of (path_nodes (query_path query) node t)) put.first put.others (ap (map row_of) (sym found) ∙ put.split) put.puts in
+    let part = part_of_rows c.loop-index.out c.put_values.new.out c.loop-index.outlet.held.items c.put_values.new.outlet.held.items (map row_of (path_nodes (query_path query) node t)) put.first put.others (ap (map row_of) (sym found) ∙ put.split) put.puts in
     record {
       first = all;
       others = [];
       split = sym (append-nil all);
       puts = ends_put c.from_residual.result c.args.out.now c.put_values.new.out c.args.outlet.now.held.items c.put_values.new.outlet.held.items (concat all) c.from_residual.ensures.0
-          (put_next c.args.out.now c.loop-query.out c.put_values.new.out _ _ _ (concat front) (concat mine) (concat rest) (concat all)
+          (put_next c.args.out.now c.loop-index.out c.put_values.new.out _ _ _ (concat front) (concat mine) (concat rest) (concat all)
           (concat_around all front mine rest (around_query form c.args.paths c.args.number c.args.text.now t node queries i query within is))
-          c.loop-query.invariant.rows part);
+          c.loop-index.invariant.rows part);
       all = no_answer _ c.from_residual.result c.from_residual.ensures.0;
     }
 
 pub returns-then-not-whole-clause-rows : goal.returns-then-not-whole-clause-rows
 returns-then-not-whole-clause-rows g c =
     let items = c.deref-query-items.ensures.value in
-    let i = c.loop-query.query-index in
+    let i = c.loop-index.index in
     let query = c.query-item.result in
     let form = c.args.self.form.now in
     let t = asked_tree c.args.asked.now in
     let node = node_of c.args.asked.now.node in
     let queries = c.args.self.question.now.queries.items in
-    let within : i < length queries = subst (λ l. i < length l) items c.loop-query-test.true in
+    let within : i < length queries = subst (λ l. i < length l) items c.loop-index-test.true in
     let is = c.query-item.is ∙ ap (λ l. get_or l i query) items in
     let row_of = value_row form c.args.paths c.args.number c.args.text.now in
     let found : map node_of c.found.result.now ≡ path_nodes (query_path query) node t = ap (map node_of) c.found.ensures ∙ c.in-Ok.ensures.nodes in
@@ -135,32 +144,34 @@ returns-then-not-whole-clause-rows g c =
       others = put.others ++ map row_of (nodes_of (map query_path (drop (i + 1) queries)) node t);
       split = part_of_query form c.args.paths c.args.number c.args.text.now t node queries i query within is put.first put.others (ap (map row_of) (sym found) ∙ put.split);
       puts = subst (λ (l : List ℕ). HoldsBack g.W.Write.contents c.args.out.now c.put_values.new.out c.args.outlet.now.held.items c.put_values.new.outlet.held.items l) (sym (concat-append front put.first))
-          (both_put c.args.out.now c.loop-query.out c.put_values.new.out _ _ _ _ _ c.loop-query.invariant.rows put.puts);
+          (both_put c.args.out.now c.loop-index.out c.put_values.new.out _ _ _ _ _ c.loop-index.invariant.rows put.puts);
       all = λ e. absurd (false≢true e);
     }
 
-pub loop-query-preserved : goal.loop-query-preserved
-loop-query-preserved g c =
+pub loop-index-preserved : goal.loop-index-preserved
+loop-index-preserved g c =
     let items = c.deref-query-items.ensures.value in
-    let i = c.loop-query.query-index in
+    let i = c.loop-index.index in
     let query = c.query-item.result in
     let form = c.args.self.form.now in
     let t = asked_tree c.args.asked.now in
     let node = node_of c.args.asked.now.node in
     let queries = c.args.self.question.now.queries.items in
-    let within : i < length queries = subst (λ l. i < length l) items c.loop-query-test.true in
+    let within : i < length queries = subst (λ l. i < length l) items c.loop-index-test.true in
     let is = c.query-item.is ∙ ap (λ l. get_or l i query) items in
     let row_of = value_row form c.args.paths c.args.number c.args.text.now in
     let found : map node_of c.found.result.now ≡ path_nodes (query_path query) node t = ap (map node_of) c.found.ensures ∙ c.in-Ok.ensures.nodes in
     let put = c.in_ok-whole.ensures.rows in
     let front = map row_of (nodes_of (map query_path (take i queries)) node t) in
     let all : put.first ≡ map row_of (path_nodes (query_path query) node t) = all_first _ put.first put.others put.split (put.all c.if-not-whole.false) ∙ ap (map row_of) found in
-    let rows = subst (λ (l : List (List ℕ)). HoldsBack g.W.Write.contents c.loop-query.out c.put_values.new.out c.loop-query.outlet.held.items c.put_values.new.outlet.held.items (concat l)) all put.puts in
+    let rows = subst (λ (l : List (List ℕ)). HoldsBack g.W.Write.contents c.loop-index.out c.put_values.new.out c.loop-index.outlet.held.items c.put_values.new.outlet.held.items (concat l)) all put.puts in
     record {
       rows = subst (λ (l : List ℕ). HoldsBack g.W.Write.contents c.args.out.now c.put_values.new.out c.args.outlet.now.held.items c.put_values.new.outlet.held.items l)
           (sym (ap concat (more form c.args.paths c.args.number c.args.text.now t node queries i query within is) ∙ concat-append front (map row_of (path_nodes (query_path query) node t))))
-          (both_put c.args.out.now c.loop-query.out c.put_values.new.out _ _ _ _ _ c.loop-query.invariant.rows rows);
-      some = ap (λ b. c.loop-query.some || b) c.in-Ok.ensures.some ∙ ap (λ b. b || has_nodes (path_nodes (query_path query) node t)) c.loop-query.invariant.some ∙ sym (selects_more queries i query node t within is);
+          (both_put c.args.out.now c.loop-index.out c.put_values.new.out _ _ _ _ _ c.loop-index.invariant.rows rows);
+      some = ap (λ b. c.loop-index.some || b) c.in-Ok.ensures.some ∙ ap (λ b. b || has_nodes (path_nodes (query_path query) node t)) c.loop-index.invariant.some ∙ sym (selects_more queries i query node t within is);
       working = c.in_ok-whole.ensures.tells.0;
-      after = c.in_ok-whole.ensures.tells.2 ∙ c.loop-query.invariant.after;
+      after = c.in_ok-whole.ensures.tells.2 ∙ c.loop-index.invariant.after;
+      knows = query_known c.args.self.question.now (text_of_view c.args.asked.now.line) c.loop-index.room.answers c.loop-index.invariant.knows i c.find.new.answer query
+          (item_at queries items i query c.loop-index-test.true c.query-item.is) c.in-Ok.ensures.knows;
     }

@@ -6,5 +6,6 @@ use Rattle.jp_grep.specs.Asked.{asked_tree}
 use Rattle.jp_grep.specs.Matching.{has_nodes}
 use Rattle.jp_grep.proofs.asked.AskedQuery.selects.Goals as goal
 
-pub returns-in-None : goal.returns-in-None
-returns-in-None c = ap has_nodes (sym (no_nodes (program_view c.args.self.now.program) (asked_tree c.args.asked.now)) ∙ c.in-None.ensures.nodes)
+pub returns-in_default-begin-clause-some : goal.returns-in_default-begin-clause-some
+returns-in_default-begin-clause-some c =
+    ap has_nodes (sym (no_nodes (program_view c.args.self.now.program) (asked_tree c.args.asked.now)) ∙ c.in_default-begin.ensures.nodes)
