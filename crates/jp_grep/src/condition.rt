@@ -63,9 +63,6 @@ impl Condition {
         ensures truth { IfOk result (λ truth. truth ≡ condition_holds (condition_view self.now) (node_of asked.now.node) (asked_tree asked.now)) }
         ensures knows { OnOk result (KnowsCondition (text_of_view asked.now.line) self.now answer.new) }
     {
-        if let Some(known) = answer.known {
-            return Ok(known);
-        }
         match self {
             Condition::Expression(predicate) => {
                 predicate.holds_again(alloc, asked.node, asked.line.root(), &mut answer.frame)
@@ -75,6 +72,9 @@ impl Condition {
                 listed,
                 wanted,
             } => {
+                if let Some(known) = answer.known {
+                    return Ok(known);
+                }
                 let holds = is_member(alloc, asked, query, listed, &mut answer.frame)? == *wanted;
                 if query.origin == Origin::Root {
                     answer.known = Some(holds);

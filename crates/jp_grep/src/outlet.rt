@@ -203,11 +203,24 @@ impl Outlet {
     /// # Errors
     ///
     /// `Write` if a write failed: then a beginning of what was held and of the row was written.
+    #[inline(always)]
     pub(crate) fn put<W: Write>(
         &mut self,
         row: &[u8],
         out: &mut Watched<W>,
     ) -> Result<(), SearchFault>
+        requires working { out.old.failed ≡ false }
+        ensures text { Puts W.contents out.old out.new self.old.held.items self.new.held.items result row.now }
+        ensures tells { TellsOfWriter result out.old out.new }
+    {
+        if row.is_empty() {
+            return Ok(());
+        }
+        self.put_some(row, out)
+    }
+
+    /// The same for a row that has bytes.
+    fn put_some<W: Write>(&mut self, row: &[u8], out: &mut Watched<W>) -> Result<(), SearchFault>
         requires working { out.old.failed ≡ false }
         ensures text { Puts W.contents out.old out.new self.old.held.items self.new.held.items result row.now }
         ensures tells { TellsOfWriter result out.old out.new }

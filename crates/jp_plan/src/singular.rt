@@ -17,7 +17,8 @@ fn is_selector_of(selector: &Selector, step: &Step) -> bool
     match (step, selector) {
         (Step::Name(name), Selector::Name(other)) => name.as_str() == other.as_str(),
         (Step::Index(index), Selector::Index(other)) => index == other,
-        _ => false,
+        (Step::Name(_), Selector::Index(_)) | (Step::Index(_), Selector::Name(_)) => false,
+        (_, Selector::Wildcard | Selector::Slice { .. } | Selector::Filter(_)) => false,
     }
 }
 

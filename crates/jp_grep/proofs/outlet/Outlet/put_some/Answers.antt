@@ -3,7 +3,7 @@ use Rattle.std.proofs.Common.{◌≡◌, ◌∙◌, ◌++◌, [], ℕ, List, Boo
 use Rattle.jp_devices.specs.Devices.{Received, Writes}
 use Rattle.jp_grep.specs.declared.fault.SearchFault.{SearchFault}
 use Rattle.jp_grep.proofs.Putting.{both_put, ends_put, held_put, part_put, part_put_more, written_put}
-use Rattle.jp_grep.proofs.outlet.Outlet.put.Goals as goal
+use Rattle.jp_grep.proofs.outlet.Outlet.put_some.Goals as goal
 
 pub returns-then-row-gt-MOST-clause-text : goal.returns-then-row-gt-MOST-clause-text
 returns-then-row-gt-MOST-clause-text g c =
