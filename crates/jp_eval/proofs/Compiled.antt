@@ -104,9 +104,6 @@ or_is table x = ap (test_view table) (sym (tests.rolls-Or x)) ∙ fold-roll-Test
 pub and_is : (table : Table) (x : Vec Condition Global) → test_view table (tests.And x) ≡ syntax.and_all (conditions_view table x.items)
 and_is table x = ap (test_view table) (sym (tests.rolls-And x)) ∙ fold-roll-Test syntax.Selector syntax.Logical syntax.Comparable syntax.Comparable syntax.Comparable syntax.Argument Onward syntax.Logical choice_step (condition_step table) found_step operand_step (sought_step table) spelled_step (step_step table) test_step (Test-F.And x)
 
-pub not_is : (table : Table) (x : Box Condition Global) → test_view table (tests.Not x) ≡ syntax.negated (condition_view table x.value)
-not_is table x = ap (test_view table) (sym (tests.rolls-Not x)) ∙ fold-roll-Test syntax.Selector syntax.Logical syntax.Comparable syntax.Comparable syntax.Comparable syntax.Argument Onward syntax.Logical choice_step (condition_step table) found_step operand_step (sought_step table) spelled_step (step_step table) test_step (Test-F.Not x)
-
 pub exists_is : (table : Table) (x : Vec Step Global) → test_view table (tests.Exists x) ≡ syntax.exists (here (steps_view table x.items))
 exists_is table x = ap (test_view table) (sym (tests.rolls-Exists x)) ∙ fold-roll-Test syntax.Selector syntax.Logical syntax.Comparable syntax.Comparable syntax.Comparable syntax.Argument Onward syntax.Logical choice_step (condition_step table) found_step operand_step (sought_step table) spelled_step (step_step table) test_step (Test-F.Exists x)
 

@@ -6,9 +6,7 @@ use Rattle.jp_nodes.specs.declared.cursor.Cursor.{Cursor}
 use Rattle.jp_eval.specs.Answers.{IsAnswer, is_placed, slots_in}
 use Rattle.jp_eval.specs.Frames.{IsKept}
 use Rattle.jp_eval.specs.Programs.{Meant}
-use Rattle.jp_eval.specs.Remembers.{HasAnswers, Remembers, RemembersNothing, RemembersTruths}
-use Rattle.jp_eval.specs.declared.evaluate.Program.{Program}
-use Rattle.jp_eval.specs.declared.predicate.Predicate.{Predicate}
+use Rattle.jp_eval.specs.Remembers.{HasAnswers}
 use Rattle.jp_nodes.specs.Cursors.{line_of}
 use Rattle.jp_eval.specs.Tallies.{IsKnownAs, is_listed}
 use Rattle.jp_eval.specs.declared.frame.Answer.{Answer}
@@ -48,10 +46,3 @@ apart_remembered slots line old new stays h = record {
       let was = stays position answer is in
       answer_apart run old.found.items new.found.items (slice_get (slots_in run) position) answer was.1 (h.right run s r position answer was.0);
 }
-
--- where nothing was answered, what a program or a predicate answers is remembered for each line
-pub nothing_remembers : (program : Program) (line : List ℕ) (frame : Frame) → RemembersNothing frame → Remembers program line frame
-nothing_remembers program line frame h = h program.slots.items line
-
-pub nothing_remembers_truths : (predicate : Predicate) (line : List ℕ) (frame : Frame) → RemembersNothing frame → RemembersTruths predicate line frame
-nothing_remembers_truths predicate line frame h = h predicate.slots.items line

@@ -25,7 +25,7 @@ pub record KnowsNothing (answer : LineAnswer) : Type 0 where
   pub known : answer.known ≡ None
   pub found : answer.is_found ≡ false
 
--- so many answers have room at least, and nothing is answered
+-- there are answers for `count` at least, and none is given yet
 pub record HasBegun (count : ℕ) (answers : List LineAnswer) : Type 0 where
   pub room : count ≤ length answers
   pub nothing : (index : ℕ) (answer : LineAnswer) → slice_get answers index ≡ Some answer → KnowsNothing answer
