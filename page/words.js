@@ -28,7 +28,7 @@ const shellWord = word => /^[A-Za-z0-9._\/+,:@%-]+$/.test(word) ? word : `'${wor
 
 // What is said of a pattern, in the words of jpgrep, which shows control characters escaped.
 function patternWords(pattern) {
-  const escaped = c => ({ '\t': '\\t', '\n': '\\n', '\r': '\\r' }[c] || `\\u{${c.codePointAt().toString(16)}}`);
+  const escaped = c => ({ '\t': '\\t', '\n': '\\n', '\r': '\\r' }[c] || `\\u{${c.codePointAt().toString(16).padStart(2, '0')}}`);
   return `'${pattern.replace(/\p{Cc}/gu, escaped)}' is not a valid I-Regexp (RFC 9485), so it matches nothing`;
 }
 
