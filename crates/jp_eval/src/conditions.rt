@@ -24,8 +24,9 @@ use jp_syntax::CompareOp;
 use jp_values::compare_in;
 
 impl<'r, 'a> Walk<'r, 'a> {
-    /// What a question asks of the node that names and indexes lead to.
-    #[inline(always)]
+    /// What a question asks of the node that names and indexes lead to. It is called, as conditions nest as deep as a query does:
+    /// what it keeps on the stack would be kept once for each level.
+    #[inline(never)]
     fn answer(self, node: &Cursor<'a>, keys: &[Key], question: &Question) -> Result<bool>
         ensures { IfOk result (λ b. b ≡ truth_of (question_view question.now (path current (keys_view keys.now))) (node_of node.now) (tree_at self.entry)) }
     {
@@ -51,7 +52,7 @@ impl<'r, 'a> Walk<'r, 'a> {
         }
     }
 
-    /// Whether the node passes the test. Most tests ask what names and indexes lead to, which costs no call.
+    /// Whether the node passes the test. Most tests ask what names and indexes lead to, which costs one call.
     #[cycle(eval)]
     #[inline(always)]
     pub(crate) fn passes(
