@@ -65,7 +65,9 @@ def ended(words, stack):
     """The status, the rows and the messages of a run with a stack of some bytes."""
     limit = lambda: resource.setrlimit(resource.RLIMIT_STACK, (stack, stack))
     try:
-        run = subprocess.run(words, stdin=subprocess.DEVNULL, capture_output=True, timeout=SECONDS, preexec_fn=limit)
+        # the environment lies on the stack too
+        how = {"stdin": subprocess.DEVNULL, "capture_output": True, "timeout": SECONDS, "env": {}, "preexec_fn": limit}
+        run = subprocess.run(words, **how)
     except subprocess.TimeoutExpired:
         return "it did not end"
     return run.returncode, run.stdout, run.stderr
