@@ -123,7 +123,7 @@ fn boxed_pattern(alloc: Global, literal: &Literal) -> Result<Box<LiteralPattern>
     Ok(Box::new(alloc, pattern)?)
 }
 
-/// What is looked for in the line.
+/// A box for something that is looked for in the line.
 #[inline(never)]
 fn boxed_sought(alloc: Global, sought: Sought) -> Result<Box<Sought>>
     ensures { IfOk result (λ boxed. boxed.value ≡ sought) }

@@ -24,8 +24,8 @@ use jp_syntax::CompareOp;
 use jp_values::compare_in;
 
 impl<'r, 'a> Walk<'r, 'a> {
-    /// What a question asks of the node that names and indexes lead to. It is called, as conditions nest as deep as a query does:
-    /// what it keeps on the stack would be kept once for each level.
+    /// The answer to a question about the node that names and indexes lead to. It is called, as conditions nest as deep as a
+    /// query does: its part of the stack would be taken once for each level.
     #[inline(never)]
     fn answer(self, node: &Cursor<'a>, keys: &[Key], question: &Question) -> Result<bool>
         ensures { IfOk result (λ b. b ≡ truth_of (question_view question.now (path current (keys_view keys.now))) (node_of node.now) (tree_at self.entry)) }

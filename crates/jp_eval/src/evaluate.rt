@@ -135,8 +135,8 @@ impl Program {
         self.selects_one(alloc, start, root, frame)
     }
 
-    /// The same in a frame that remembers what the program asks of the root: as a call of this program in the same line left
-    /// it. What it has answered is not asked again.
+    /// Whether the nodelist that `run` adds has a node, as `selects_in` tells it, in a frame that remembers the answers of the
+    /// root: as a call of this program in the same line left it. These are not asked again.
     ///
     /// If memory is refused, the answer is `AllocError`, and the frame can be lent again.
     pub fn selects_again<'a>(
@@ -178,8 +178,8 @@ impl Program {
         self.push_all(alloc, start, root, frame)
     }
 
-    /// The same in a frame that remembers what the program asks of the root: as a call of this program in the same line left
-    /// it. What it has answered is not asked again.
+    /// Finds the nodelist that `run` adds, as `run_in` does, in a frame that remembers the answers of the root: as a call of this
+    /// program in the same line left it. These are not asked again.
     ///
     /// If memory is refused, the answer is `AllocError`, and the frame can be lent again.
     pub fn run_again<'a>(

@@ -89,8 +89,8 @@ impl Predicate {
         self.holds(alloc, node, root, frame)
     }
 
-    /// The same in a frame that remembers what the expression asks of the root: as a call of this predicate in the same line
-    /// left it. What it has answered is not asked again.
+    /// Whether the expression holds of a node, as `holds_in` tells it, in a frame that remembers the answers of the root: as a
+    /// call of this predicate in the same line left it. These are not asked again.
     ///
     /// If memory is refused, the answer is `AllocError`, and the frame can be lent again.
     pub fn holds_again<'a>(

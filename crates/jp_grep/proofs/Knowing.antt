@@ -1,5 +1,5 @@
 -- What was answered in a line, item by item.
-use Rattle.std.proofs.Common.{◌≡◌, ◌∙◌, ◌<◌, ◌⊎◌, inl, inr, ℕ, zero, suc, List, [], ◌∷◌, ◌++◌, Option, Some, None, ap, arith, get_or, length, refl, slice_set, subst, sym}
+use Rattle.std.proofs.Common.{◌≡◌, ◌∙◌, ◌<◌, ℕ, zero, suc, List, [], ◌∷◌, ◌++◌, Option, Some, None, ap, arith, get_or, length, refl, slice_set, subst, sym}
 use Rattle.std.specs.Prelude.{slice_get}
 use Rattle.std.specs.Vec.{with_item}
 use Rattle.std.proofs.lemmas.Bool.{false≢true}
@@ -12,19 +12,7 @@ use Rattle.jp_grep.specs.declared.condition.Condition.TheVariants as conditions
 use Rattle.jp_grep.specs.declared.line_answers.LineAnswer.{LineAnswer}
 use Rattle.jp_grep.specs.declared.line_answers.LineAnswers.{LineAnswers}
 use Rattle.jp_grep.specs.declared.question.Question.{Question}
-
--- what stands in a list in which one item was set: there that item, and beside it what stood there
-pub got_beside : {A B : Type 0} (l : List A) (i j : ℕ) (x y : A) → slice_get (slice_set l i x) j ≡ Some y → (i ≡ j → x ≡ y → B) → ((j < i) ⊎ (i < j) → slice_get l j ≡ Some y → B) → B
-got_beside [] i zero x y h f g = absurd (cc)
-got_beside [] i (suc j) x y h f g = absurd (cc)
-got_beside (z ∷ l) zero zero x y h f g = f refl (cc)
-got_beside (z ∷ l) zero (suc j) x y h f g = g (inr (omega arith)) h
-got_beside (z ∷ l) (suc i) zero x y h f g = g (inl (omega arith)) h
-got_beside (z ∷ l) (suc i) (suc j) x y h f g = got_beside l i j x y h (λ e k. f (ap suc e) k) (λ apart k. g (further apart) k)
-  where
-    further : (j < i) ⊎ (i < j) → (suc j < suc i) ⊎ (suc i < suc j)
-    further (inl before) = inl (omega (arith, before))
-    further (inr behind) = inr (omega (arith, behind))
+use Rattle.jp_eval.proofs.Answered.{got_beside}
 
 -- what stands in a list to which one item was added
 pub got_added : {A B : Type 0} (l : List A) (j : ℕ) (x y : A) → slice_get (l ++ x ∷ []) j ≡ Some y → (x ≡ y → B) → (slice_get l j ≡ Some y → B) → B

@@ -12,7 +12,7 @@ use jp_eval::Frame;
 use jp_nodes::Cursor;
 use std::alloc::{AllocError, Global};
 
-/// What a condition or a query has answered in the line at hand.
+/// The answers of a condition or a query in the line at hand.
 #[derive(Drop)]
 pub(crate) struct LineAnswer<'r> {
     /// The nodes that were found last, and what was asked of the root. It lends its room to the next line.
@@ -53,7 +53,7 @@ impl<'r> LineAnswer<'r> {
     }
 }
 
-/// What was answered in the line at hand: by each condition, and by each query.
+/// The answers in the line at hand: of each condition, and of each query.
 #[derive(Drop)]
 pub(crate) struct LineAnswers<'r> {
     pub(crate) conditions: Vec<LineAnswer<'r>>,

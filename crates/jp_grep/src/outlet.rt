@@ -219,7 +219,7 @@ impl Outlet {
         self.put_some(row, out)
     }
 
-    /// The same for a row that has bytes.
+    /// Puts a row that has bytes, as `put` does.
     fn put_some<W: Write>(&mut self, row: &[u8], out: &mut Watched<W>) -> Result<(), SearchFault>
         requires working { out.old.failed ≡ false }
         ensures text { Puts W.contents out.old out.new self.old.held.items self.new.held.items result row.now }

@@ -19,10 +19,10 @@ pub(crate) struct Room<'r> {
     pub(crate) node: NodeRoom<'r>,
 }
 
-/// What was answered in the line, what spells values, the row that is made, and where it is one of a table its cells.
+/// The answers in the line, the speller of values, the row that is made, and where it is one of a table its cells.
 #[derive(Drop)]
 pub(crate) struct NodeRoom<'r> {
-    /// What was answered in the line.
+    /// The answers in the line.
     pub(crate) answers: LineAnswers<'r>,
     pub(crate) speller: Speller,
     pub(crate) row: Vec<u8>,

@@ -385,8 +385,8 @@ impl<'a> Options<'a> {
         }
     }
 
-    /// What is written of the file with this name, which messages have as `told_name`, in colours or not. Refused lines that are
-    /// selected are no fault.
+    /// The form of the rows of the file with this name, which messages have as `told_name`, in colours or not. Refused lines
+    /// that are selected are no fault.
     pub fn form<'f>(&self, name: &'f str, told_name: &'f str, coloured: bool) -> Form<'f>
         ensures shown { result.shown ≡ asked_rows self.now }
         ensures spelling { result.spelling ≡ asked_spelling self.now }

@@ -6,7 +6,7 @@ ghost use Rattle.jp_shown.specs.Texts.{quotes_word};
 use crate::text::shown;
 use std::alloc::{AllocError, Global};
 
-/// What stands before a word that is no option, as clap says it, and after it.
+/// The words of clap before a word that is no option, and after it.
 const BEFORE: &str = "error: unexpected argument '";
 
 const AFTER: &str = "' found";

@@ -32,7 +32,7 @@ pub(crate) struct Moving {
     folded: Links,
     /// All that lies below these, each by the number of the one above it. Objects are not folded here.
     told: Links,
-    /// Where each place has moved.
+    /// The new place of each that has moved.
     places: Vec<Option<usize>>,
 }
 
@@ -178,7 +178,7 @@ fn by_depth(alloc: Global, links: &Links) -> Result<Vec<Deep>, AllocError>
     Ok(places)
 }
 
-/// Where places have moved, if all have.
+/// The new places, if all have moved.
 fn all_moved(alloc: Global, places: &[Option<usize>]) -> Result<Vec<usize>, AllocError>
     ensures { IfOk result (λ all. map Some all.items ≡ places.now) }
 {

@@ -53,7 +53,7 @@ fn list_below<'n>(
     Ok(list)
 }
 
-/// Where those below each place end in such a list.
+/// The end of those below each place in such a list.
 fn ends_of(alloc: Global, list: &[Below<'_>], many: usize) -> Result<Vec<usize>, AllocError>
     ensures { IfOk result (λ ends. length ends.items ≡ many) }
 {

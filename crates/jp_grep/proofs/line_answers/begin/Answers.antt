@@ -5,7 +5,8 @@ use Rattle.std.proofs.lemmas.List.{length-set}
 use Rattle.std.proofs.lemmas.Option.{slice_get_within}
 use Rattle.jp_grep.specs.LineAnswers.{KnowsNothing}
 use Rattle.jp_grep.specs.declared.line_answers.LineAnswer.{LineAnswer}
-use Rattle.jp_grep.proofs.Knowing.{got_added, got_beside}
+use Rattle.jp_eval.proofs.Answered.{got_beside}
+use Rattle.jp_grep.proofs.Knowing.{got_added}
 use Rattle.jp_grep.proofs.line_answers.begin.Goals as goal
 
 -- beside an item, and before the next, is before the item
