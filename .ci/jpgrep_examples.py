@@ -166,6 +166,21 @@ def own_messages(room):
     check("how many more were refused, and no other message", (len(lines), bool(last) and 39_990 <= int(last[1]) <= 40_000), (11, True))
 
 
+def messages_among_rows(room):
+    """A message stands after the rows of the lines before its own and before those of the lines after it, in whichever read they came."""
+    lines = [b"1", b"x", b"2", b"{", *(b"%d" % number for number in range(5, 20_000)), b"[", b"3"]
+    row, around, message = b"%d:%s\n", b"%d-%s\n", b"jpgrep: (standard input):%d: grammar\n"
+    for words in ["-n", "$"], ["-n", "-o", "$"], ["-n", "-C1", "$"]:
+        told = b""
+        for number, line in enumerate(lines, 1):
+            if line.isdigit():
+                told += row % (number, line)
+            else:
+                told += (around % (number, line) if "-C1" in words else b"") + message % number
+        run = subprocess.run([PROGRAM, *words], cwd=room, input=b"\n".join(lines), stdout=subprocess.PIPE, stderr=subprocess.STDOUT, timeout=SECONDS)
+        check(f"{words}: messages among rows", run.stdout, told)
+
+
 def failed_reads(room):
     """A read that fails after eleven refused lines, and within a text, of which nothing is told: that of a terminal whose other side
     was closed."""
@@ -408,6 +423,7 @@ def main():
         example.run(files)
     with tempfile.TemporaryDirectory() as room:
         devices(room)
+        messages_among_rows(room)
         own_output(room)
         own_messages(room)
         failed_reads(room)

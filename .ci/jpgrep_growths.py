@@ -8,8 +8,9 @@ A run in which a growth was refused ends in one of three ways. It has no need of
 begins no search: then it ends with status 2, says `jpgrep: out of memory` last, and writes and says a beginning of what it writes and
 says without the refusal, but for which line of a list was given up. Or it gives up a line, or passes over the rest of a stream: then
 it says which line of which stream, ends with status 2, and what it writes, and says beside that, is what it writes and says without
-the refusal, less one piece of it (and with other counts, and other lines around those that are selected). A growth that the library
-asks for again at once, since it may have been asked for with too high a hint, is then refused both times.
+the refusal, less one piece of it, and with other counts. Lines around those that are selected may be others then, none of another
+stream or from beyond the line that was given up. A growth that the library asks for again at once, since it may have been asked for
+with too high a hint, is then refused both times.
 """
 import os
 import re
@@ -22,6 +23,8 @@ NO_MEMORY = b"jpgrep: out of memory\n"
 LINE_LOST = re.compile(rb"^jpgrep: [^\n]*:\d+: out of memory(, from line \d+|; the rest is not searched)?\n", re.MULTILINE)
 # A row of a selected line, with its number.
 SELECTED = re.compile(rb"^(?:[^\n:{-]*:)?\d+:[^\n]*\n", re.MULTILINE)
+# What stands in front of each row of lines around selected ones: the name of its stream where it is told, its number, and the sign.
+FRONT = re.compile(rb"(?:([^\n:{-]*)[:-])?(\d+)([:-])")
 # What begins or ends a colour.
 COLOUR = re.compile(rb"\x1b\[[0-9;]*[mK]")
 COUNT = re.compile(rb"\b\d+$|\d+ more lines? (is|are) refused; --refused lists them$", re.MULTILINE)
@@ -41,6 +44,10 @@ SEQUENCE = b'\x1e{"level":"error"}\n\x1e[1,\n\x1e{"level":\n"info"}\n'
 IDS = b"".join(b'"id%d"\n' % number for number in range(40)) + b'"err\\u006fr"\n{"b":[1,{}],"a":1e9}\n'
 
 DOCUMENTS = b'{"level":\n"error"}[1,\n2]"x" tru {"a" 1}' + b"[" + LINES.replace(b"\n", b",\n")
+
+# A stream that ends with a selected line, and one whose lines of 200,000 bytes may be given up.
+HIT = b'{"a":1}\n{"b":1}\n{"hit":1}\n'
+LONG = b'["' + b"x" * 200_000 + b'"]\n{"c":0}\n{"hit":2}\n["' + b"y" * 200_000 + b'"]\n{"hit":3}\n{"c":1}\n'
 
 # The words of each run, and the text of its standard input.
 RUNS = [
@@ -75,6 +82,9 @@ RUNS = [
     (["--color=always", "-n", "-H", "-e", "$..*", "-e", "$", "lines", "-"], LINES),
     (["--color=always", "-n", "-o", "-p", "-e", "$..*", "-w", "@.ms", "lines"], b""),
     (["--color=always", "-n", "-C", "1", "$.ms", "lines"], b""),
+    (["-n", "-H", "-A", "2", "$.hit", "hit", "long", "hit"], b""),
+    (["-n", "-H", "-B", "2", "-w", "@.hit == 2", "hit", "long"], b""),
+    (["-n", "-C", "0", "$.hit", "long"], b""),
     (["--color=always", "-c", "--json", "$..*"], DOCUMENTS),
     (["-q", "$.absent", "lines"], b""),
     (["-c", "--in", "@.level", "ids", "--not-in", "$.ms", "-", "lines"], b"1.5e2\n{\n"),
@@ -141,10 +151,21 @@ def shows_context(words):
     return any(word in ("-A", "-B", "-C") for word in words)
 
 
-def around_less(part, whole, lines):
-    """Whether the selected rows of a text are those of another, less one piece, and its rows are some of the rows of all lines, in order."""
+def is_group(rows):
+    """Whether rows are those of lines of one stream that follow one another, with one that is selected."""
+    fronts = [FRONT.match(row).groups() for row in rows.splitlines()]
+    name, first, _ = fronts[0]
+    numbers = [int(number) for _, number, _ in fronts]
+    return numbers == [*range(int(first), int(first) + len(fronts))] and {front[0] for front in fronts} == {name} and b":" in (front[2] for front in fronts)
+
+
+def around_less(part, whole, lines, are_lines):
+    """Whether the selected rows of a text are those of another, less one piece, and its rows are some of the rows of all lines, in order.
+    Where each is one line, two hyphens stand wherever its lines do not follow one another, and each group has a selected one."""
     following = iter(lines.split(b"\n"))
     rows = (row for row in part.split(b"\n") if row != b"--")
+    if are_lines and part and not all(is_group(group) for group in re.split(rb"^--\n", part, flags=re.MULTILINE)):
+        return False
     return all(row in following for row in rows) and lacks_a_piece(*(b"".join(SELECTED.findall(text)) for text in (part, whole)))
 
 
@@ -165,7 +186,7 @@ def refused_fault(words, got, whole, lines):
         return f"said {said[-200:]!r} for {whole_said[-200:]!r}"
     is_less = counts_less if "--tally" in words else survey_less if "--paths" in words else lacks_a_piece
     around = (COLOUR.sub(b"", text) for text in (out, whole_out, lines))
-    if not (around_less(*around) if shows_context(words) else is_less(out, whole_out)):
+    if not (around_less(*around, "--json" not in words) if shows_context(words) else is_less(out, whole_out)):
         return f"wrote {out[-200:]!r}, which is not what it writes without that, less one piece"
     return None
 
@@ -199,7 +220,7 @@ def main():
         print("skipped: every refusal, as there is no `cc` with its headers to build what refuses")
         print(f"jpgrep: 0 passed, 0 failed, {len(RUNS)} skipped")
         return 0
-    for name, text in (("lines", LINES), ("sequence", SEQUENCE), ("ids", IDS)):
+    for name, text in (("lines", LINES), ("sequence", SEQUENCE), ("ids", IDS), ("hit", HIT), ("long", LONG)):
         with open(os.path.join(FOLDER, name), "wb") as file:
             file.write(text)
     counts = {False: 0, True: 0}

@@ -8,6 +8,7 @@ square of its input does neither.
 """
 import json
 import os
+import random
 import resource
 import subprocess
 import sys
@@ -65,6 +66,44 @@ def chains(count, depth):
     return "\n".join(lines) + "\n"
 
 
+def asked_of(function, pattern):
+    """Whether each text of the document matches."""
+    return ["-c", "-e", f'$[?{function}(@, "{pattern}")]']
+
+
+def twice(unit, middle="", end=""):
+    """A text of a unit, something in its middle where a pattern may start anew, as often the unit, and an end."""
+    return lambda count: json.dumps([unit * count + middle + unit * count + end]) + "\n"
+
+
+LINE = "end of a long line of text, as it may come in a log, that has more than 63 states"
+RANDOM = random.Random(3)
+WORDS = ["".join(RANDOM.choice("abcdefghijklmnopqrstuvwxyz") for _ in range(RANDOM.randint(4, 7))) for _ in range(4000)]
+OR = "|".join(WORDS)
+# Patterns of more than 63 states and without a count, each with a text of two starts that are far from each other.
+FAR = {
+    "(.*start)?([a-z]+;)*" + LINE: ("it;", "start", LINE),
+    "(.*start)?([a-z]+;|[0-9]+;)*" + LINE: ("it;7;", "start", LINE),
+    "(.*x|cd)*" + "e?" * 70: ("cd", "x", ""),
+    "(.*x|.*z|cd)*" + "e?" * 70: ("cd", "x", ""),
+    "(.*y)?(ab)*" + "c?" * 70: ("ab", "y", ""),
+    "(.*y)?(ab)+" + "(c|d)?" * 40: ("ab", "y", "cd"),
+    "(.*y)?(a*b?)*" + "c?" * 70: ("ab", "y", ""),
+    "(.*y)?((a|b)(b|a))*" + "c?" * 70: ("ab", "y", ""),
+    "(.*y)?((ab)*(ba)*)*" + "c?" * 70: ("abba", "y", ""),
+    "((.*y)?(ab)*)*" + "c?" * 70: ("ab", "y", ""),
+    "(.*y.*)?(ab|cd)*" + "c?" * 70: ("abcd", "y", ""),
+    "(.*y)?(ab(cd)?)*" + "c?" * 70: ("abcd", "y", ""),
+    "(.*y)?(ab|a|b)*" + "c?" * 70: ("ab", "y", ""),
+    "(.*y)?([^y]b)*" + "c?" * 70: ("ab", "y", ""),
+    "(.*y)?(\\\\p{L}\\\\p{L})*" + "c?" * 70: ("ab", "y", ""),
+    "(.*y)?(ab)*" + "(c|d|e)*" * 25: ("ab", "y", "cde"),
+    "(ab)*y?(ab)*" + "c?" * 70: ("ab", "y", ""),
+    "(.*y)?(" + "ab" * 40 + ")*": ("ab" * 40, "y", ""),
+    "(.*y)?(a(b(a(b)*)*)*)*" + "c?" * 70: ("ab", "y", ""),
+    "(|.*y)(|ab)(ab)*" + "c?" * 70: ("ab", "y", ""),
+}
+SPELLED = {"(%s)": "match", "((%s)|a|b)*x": "match", "(%s|a|b)*": "match", "((%s)|a|b)*y": "search", "(x(%s))*z?": "search"}
 EACH = ["-c", "--each", "$.features[*]"]
 # What each asks: its words, by how much it is asked, and the text that it is asked of. A list of values stands in the file `list`.
 SHAPES = {
@@ -90,6 +129,8 @@ SHAPES = {
     "descents of a query": (4000, lambda n: "1\n", lambda n: ["-c", "$" + "..*" * n]),
     "twenty queries": (1000, lambda n: "1\n", lambda n: ["-c", *(it for _ in range(20) for it in ("-e", "$" + ".*.*" * n))]),
 }
+SHAPES |= {f"a text of two starts under {pattern[:40]}": (4_000, twice(*text), lambda n, pattern=pattern: asked_of("match", pattern)) for pattern, text in FAR.items()}
+SHAPES |= {f"{function} of many words as {spelled}": (2_000, twice("".join(WORDS[:3]), WORDS[-1]), lambda n, spelled=spelled, function=function: asked_of(function, spelled % OR)) for spelled, function in SPELLED.items()}
 
 
 def main():

@@ -21,6 +21,7 @@ use Rattle.jp_grep.specs.declared.question.Question.{Question}
 use Rattle.jp_grep.proofs.Coming.{none_lost}
 use Rattle.jp_grep.proofs.SoFar.{whole_came, whole_kept}
 use Rattle.jp_model.specs.Query.Syntax.{Path}
+use Rattle.jp_sink.specs.Events.{Event}
 use Rattle.jp_c.specs.Asked.{AddsQueries, AreQueries, HasRefusedQuery, IsFound, IsRefusedOrMemory, IsRefusedQuery, form_of, found_by}
 use Rattle.jp_form.specs.declared.form.Units.{Units}
 use Rattle.jp_c.specs.declared.filter.Rows.{Rows}
@@ -116,11 +117,11 @@ no_framing : (format : Format) → search_faults.Foreign format ≡ search_fault
 no_framing format e = cc
 
 -- a search that stopped since the text has the mark of a format
-pub foreign_mark : {W E : Type 0} (rows_in : W → Option (List ℕ)) (messages_in : E → Option (List ℕ)) (question : Question) (form : Form) (out0 out1 : Device W) (told0 told1 : Device E)
+pub foreign_mark : {S E : Type 0} (stands stopped : S → List Event → Type 0) (messages_in : E → Option (List ℕ)) (question : Question) (form : Form) (sink0 sink1 : S) (told0 told1 : Device E)
     (fault : SearchFault) (came : Came) (outcomes : List Item) (format : Format) → fault ≡ search_faults.Foreign format
-    → SearchStopped rows_in messages_in question form out0 out1 told0 told1 fault came outcomes → format_of came.bytes ≡ Some format
-foreign_mark rows_in messages_in question form out0 out1 told0 told1 fault came outcomes format e h =
-    by (subst (λ (f : SearchFault). SearchStopped rows_in messages_in question form out0 out1 told0 told1 f came outcomes) e h).0
+    → SearchStopped stands stopped messages_in question form sink0 sink1 told0 told1 fault came outcomes → format_of came.bytes ≡ Some format
+foreign_mark stands stopped messages_in question form sink0 sink1 told0 told1 fault came outcomes format e h =
+    by (subst (λ (f : SearchFault). SearchStopped stands stopped messages_in question form sink0 sink1 told0 told1 f came outcomes) e h).0
   where
     by : IsRefused (framing_by form.units) came (search_faults.Foreign format) → format_of came.bytes ≡ Some format
     by (inl is) = is

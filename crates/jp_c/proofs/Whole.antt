@@ -1,9 +1,8 @@
 -- A search that selects fewer items than are wanted answers all.
-use Rattle.std.proofs.Common.{arith, ◌≡◌, ◌∙◌, ◌+◌, ◌-◌, ◌≤◌, ◌∷◌, ◌++◌, [], ℕ, zero, suc, List, Bool, true, false, ap, ap₂, drop, get_or, map, refl, subst, sym, Option, None, Some}
+use Rattle.std.proofs.Common.{arith, ◌≡◌, ◌∙◌, ◌+◌, ◌-◌, ◌≤◌, ◌∷◌, ◌++◌, [], ℕ, zero, suc, List, Bool, true, false, ap, ap₂, append-nil, map, refl, subst, sym, Option, None, Some}
 use Rattle.std.specs.Prelude.{cond}
 use Rattle.std.proofs.lemmas.List.{length-take}
 use Rattle.std.proofs.lemmas.List.Sums.{sum_by-cons}
-use Rattle.jp_devices.specs.Devices.{Device, Received}
 use Rattle.jp_model.specs.Json.Status.{LineStatus, blank, refused, parsed}
 use Rattle.jp_cut.specs.Cuts.{pieces_come}
 use Rattle.jp_form.specs.declared.form.Units.{Units}
@@ -14,6 +13,8 @@ use Rattle.jp_grep.specs.Rows.{refused_count, refused_item, selected_count, sele
 use Rattle.jp_grep.specs.Streams.{lines_come}
 use Rattle.jp_grep.specs.Watching.{cut_to, up_to}
 use Rattle.jp_grep.specs.declared.question.Question.{Question}
+use Rattle.jp_sink.specs.Events.{Event}
+use Rattle.jp_sink.specs.Telling.{Takes}
 use Rattle.jp_grep.proofs.Counted.{count-cons}
 
 -- each of some items may be judged
@@ -79,10 +80,7 @@ module _ (question : Question) where
       whole : (most one rest all : ℕ) → all ≡ one + rest → one ≤ most → rest ≡ most - one → all ≡ most
       whole most one rest all e l k = omega (arith, e, l, k)
 
--- what was received, by another form of its bytes
-pub received_as : {W : Type 0} (contents : W → Option (List ℕ)) (old new : Device W) (bytes same : List ℕ) → bytes ≡ same → Received contents old new bytes → Received contents old new same
-received_as contents old new bytes same e h = subst (Received contents old new) e h
-
--- a number, and bytes after it that came after none
-pub after_first : (first old new : ℕ) (before after bytes : List ℕ) → new ∷ after ≡ (old ∷ before) ++ bytes → old ≡ first → before ≡ [] → (new ≡ first) × (after ≡ bytes)
-after_first first old new before after bytes e first_is none = (ap (λ (l : List ℕ). get_or l 0 0) e ∙ first_is, ap (λ (l : List ℕ). drop 1 l) e ∙ ap (λ (l : List ℕ). l ++ bytes) none)
+-- what a sink took, where nothing stands after the rows, by another form of it
+pub taken_as : {S : Type 0} (stands : S → List Event → Type 0) (old new : S) (events parts same : List Event) → parts ≡ [] → events ≡ same → Takes stands old new (events ++ parts) → Takes stands old new same
+taken_as stands old new events parts same none is takes =
+    λ told stood. subst (λ (l : List Event). stands new (told ++ l)) (ap (λ (l : List Event). events ++ l) none ∙ append-nil events ∙ is) (takes told stood)

@@ -27,13 +27,14 @@ use Rattle.jp_grep.specs.Conditions.{Condition, expression}
 use Rattle.jp_grep.specs.Formats.{format_of}
 use Rattle.jp_grep.specs.Items.{items_come}
 use Rattle.jp_grep.specs.Matching.{conditions_of, each_of, queries_of}
-use Rattle.jp_grep.specs.Rows.{output_from}
+use Rattle.jp_grep.specs.Rows.{output_from, stream_events}
 use Rattle.jp_grep.specs.Watching.{answered_of}
 use Rattle.jp_grep.specs.declared.format.Format.{Format}
 use Rattle.jp_grep.specs.declared.question.Queries.{Queries}
 use Rattle.jp_grep.specs.declared.question.Queries.TheVariants as purposes
 use Rattle.jp_grep.specs.declared.question.Question.{Question}
 use Rattle.jp_grep.specs.declared.question.Wanted.TheVariants as wanted
+use Rattle.jp_sink.specs.Events.{Event}
 use Rattle.jp_c.specs.declared.filter.Rows.{Rows}
 use Rattle.jp_c.specs.declared.question.FilterFault.{FilterFault}
 use Rattle.jp_c.specs.declared.question.FilterFault.TheVariants as faults
@@ -132,6 +133,10 @@ columns table = record { shown = shown.Cells table; spelling = spellings.Source;
 abbrev pub line_rows : Rows
 line_rows = filtered (shown.Line false) spellings.Source
 
+-- the lines that are selected, told as nodes
+abbrev pub node_rows : Rows
+node_rows = filtered shown.Nodes spellings.Source
+
 -- what is shown, by its number: nothing; lines; paths and values; CSV; TSV; lines in canonical form; paths and values in it; values
 -- in it; values as they are spelled; values with strings as text
 abbrev pub all_rows : List Rows
@@ -175,7 +180,11 @@ form_of name units rows numbered = record {
 abbrev pub of_lines : Units
 of_lines = unit.Lines framings.Lines
 
--- what is written of the units of a text that answer a question
+-- what is told of the units of a text that answer a question
+abbrev pub events_by : Question → Form → List ℕ → List Event
+events_by question form text = stream_events question form (answered_of question form 0 (items_come form.units true text))
+
+-- and what is written of them
 abbrev pub found_by : Question → Form → List ℕ → List ℕ
 found_by question form text = output_from question form 1 (answered_of question form 0 (items_come form.units true text))
 

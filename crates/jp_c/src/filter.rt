@@ -1,7 +1,7 @@
 //! A search over the lines of a text.
 
 ghost use Rattle.std.specs.Prelude.{◌≡◌, [], IfErr, OnErr, OnOk};
-ghost use Rattle.jp_c.specs.Asked.{IsFilteredBy, TellsFilterFault, TellsNumberFirst, columns, filtered as filtered_rows, line_rows as rows_of_lines, rows_of as rows_at};
+ghost use Rattle.jp_c.specs.Asked.{IsFilteredBy, TellsFilterFault, TellsNumberFirst, columns, filtered as filtered_rows, line_rows as rows_of_lines, node_rows as rows_of_nodes, rows_of as rows_at};
 ghost use Rattle.jp_c.specs.Sessions.{left_in};
 
 use crate::question::{FilterFault, question_of};
@@ -45,6 +45,13 @@ pub(crate) fn line_rows() -> Rows
     ensures { result ≡ rows_of_lines }
 {
     filtered(Shown::Line { faults: false }, Spelling::Source)
+}
+
+/// The lines that are selected, told as nodes.
+pub(crate) fn node_rows() -> Rows
+    ensures { result ≡ rows_of_nodes }
+{
+    filtered(Shown::Nodes, Spelling::Source)
 }
 
 /// The rows of a number.

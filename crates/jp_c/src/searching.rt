@@ -1,18 +1,17 @@
 //! A text that is searched.
 
 ghost use Rattle.std.specs.Prelude.{◌≡◌, IfErr, IfOk, false, true};
-ghost use Rattle.jp_devices.specs.Devices.{Received};
 ghost use Rattle.jp_form.specs.declared.form.Summary.TheVariants.{Nothing};
 ghost use Rattle.jp_grep.specs.Items.{items_come};
 ghost use Rattle.jp_grep.specs.Rows.{refused_count};
-ghost use Rattle.jp_c.specs.Asked.{TellsUnread, form_of as form_with, found_by};
+ghost use Rattle.jp_c.specs.Asked.{TellsUnread, events_by, form_of as form_with, found_by};
+ghost use Rattle.jp_sink.specs.Telling.{Takes};
 
 use crate::filter::Rows;
 use crate::question::FilterFault;
-use jp_grep::{Form, Input, Question, SearchFault, Summary, Units, search};
+use jp_grep::{Form, HeldText, Input, Question, SearchFault, Sink, Summary, Units, search};
 use jp_model::Watched;
 use std::alloc::Global;
-use std::io::Write;
 
 /// How such rows are written of the units of a text, with their numbers or without.
 pub(crate) fn form_of<'a>(name: &'a str, units: Units, rows: Rows, numbered: bool) -> Form<'a>
@@ -36,24 +35,25 @@ pub(crate) fn form_of<'a>(name: &'a str, units: Units, rows: Rows, numbered: boo
     }
 }
 
-/// Writes the rows of a text that answer a question, and gives how many of its units are refused. The writer fails for want of memory
+/// Tells a sink what of a text answers a question, and gives how many of its units are refused. The sink fails for want of memory
 /// alone.
-pub(crate) fn search_text<W: Write>(
+pub(crate) fn search_text<S: Sink>(
     alloc: Global,
     question: &Question,
     form: &Form<'_>,
     text: &[u8],
-    out: &mut Watched<W>,
+    sink: &mut S,
 ) -> Result<u64, FilterFault>
-    requires writes { out.old.failed ≡ false }
+    requires writes { (S.state sink.old).failed ≡ false }
     requires summary { form.now.summary ≡ Nothing }
-    ensures found { IfOk result (λ refused. Received W.contents out.old out.new (found_by question.now form.now text.now)) }
+    ensures found { IfOk result (λ refused. Takes S.stands sink.old sink.new (events_by question.now form.now text.now)) }
+    ensures settings { (S.state sink.new).settings ≡ (S.state sink.old).settings }
     ensures refused { IfOk result (λ refused. refused ≡ refused_count (items_come form.now.units true text.now)) }
     ensures fault { IfErr result (λ fault. TellsUnread fault text.now) }
 {
     let mut input = Input::new(Watched::new(text));
     let mut messages = Watched::new(Vec::new(alloc));
-    match search(alloc, question, form, &mut input, out, &mut messages) {
+    match search(alloc, question, form, &mut input, sink, &mut messages) {
         Ok(came) => {
             // The search ends before the text does only where as many lines are selected as are wanted.
             if !came.is_whole() || came.counts.selected == form.most {
@@ -79,7 +79,7 @@ pub(crate) fn find_rows(
     ensures refused { IfOk result (λ found. found.1 ≡ refused_count (items_come form.now.units true text.now)) }
     ensures fault { IfErr result (λ fault. TellsUnread fault text.now) }
 {
-    let mut rows = Watched::new(Vec::new(alloc));
+    let mut rows = HeldText::new(alloc);
     let refused = search_text(alloc, question, form, text, &mut rows)?;
-    Ok((rows.into_inner(), refused))
+    Ok((rows.text, refused))
 }

@@ -1,47 +1,25 @@
 //! What is in the lines of a text.
 
-ghost use Rattle.std.specs.Prelude.{◌≡◌, [], IfErr, IfOk, OnErr, OnOk};
+ghost use Rattle.std.specs.Prelude.{◌≡◌, [], IfErr, IfOk, List, OnErr, OnOk};
 ghost use Rattle.jp_c.specs.Asked.{TellsUnread};
 ghost use Rattle.jp_c.specs.Sessions.{left_in};
 ghost use Rattle.jp_c.specs.Surveyed.{IsSurveyed, IsSurveyOf, IsSurveyOfFound, TellsSurveyFault};
-ghost use Rattle.jp_survey.specs.declared.input.Surveyed.TheVariants as kinds;
+ghost use Rattle.jp_sink.specs.Events.{Event};
+ghost use Rattle.jp_survey.specs.Held.{HasSurveyed};
+ghost use Rattle.jp_survey.specs.Told.{lines_told};
 
-use crate::filter::line_rows;
+use crate::filter::node_rows;
 use crate::question::{FilterFault, question_of};
 use crate::searching::{form_of, search_text};
 use crate::session::Session;
-use jp_grep::{Framing, Question, Table, Units};
+use jp_grep::{Framing, Queries, Question, Table, Units};
 use jp_model::Watched;
 use jp_survey::Survey;
 use std::alloc::{AllocError, Global};
-use std::io::{self, Write};
-
-/// A survey as a writer of rows. Its bytes are, for proofs alone, the number of names by which it folds and then the rows that came:
-/// so a search that writes to it is known to leave that number as it was.
-#[derive(Drop)]
-struct Surveyor {
-    survey: Survey,
-    ghost lines: { survey.surveyed ≡ kinds.Lines },
-}
-
-impl Write for Surveyor {
-    ghost use Rattle.std.specs.Prelude.{◌∷◌, Some};
-
-    ghost contents = { λ surveyor. Some (surveyor.survey.fold ∷ surveyor.survey.came.taken) };
-
-    fn write(&mut self, bytes: &[u8]) -> io::Result<usize> {
-        self.survey.write(bytes)
-    }
-
-    fn flush(&mut self) -> io::Result<()> {
-        self.survey.flush()
-    }
-}
 
 /// The text of what was surveyed.
 fn text_of(alloc: Global, survey: Survey) -> Result<Vec<u8>, AllocError>
-    requires { survey.surveyed ≡ kinds.Lines }
-    ensures { IfOk result (λ text. IsSurveyOf survey.came.taken survey.fold text.items) }
+    ensures { (told : List Event) → HasSurveyed survey told → IfOk result (λ text. IsSurveyOf (lines_told told) survey.fold text.items) }
 {
     let mut text = Watched::new(Vec::new(alloc));
     match survey.write_rows(Table::Canonical, false, &mut text) {
@@ -60,11 +38,10 @@ fn survey_text(
     ensures found { IfOk result (λ found. IsSurveyOfFound question.now text.now fold found.items) }
     ensures fault { IfErr result (λ fault. TellsUnread fault text.now) }
 {
-    let form = form_of("", Units::Lines(Framing::Lines), line_rows(), false);
-    let survey = Survey::new(alloc, fold)?;
-    let mut rows = Watched::new(Surveyor { survey });
-    search_text(alloc, question, &form, text, &mut rows)?;
-    Ok(text_of(alloc, rows.into_inner().survey)?)
+    let form = form_of("", Units::Lines(Framing::Lines), node_rows(), false);
+    let mut survey = Survey::new(alloc, fold)?;
+    search_text(alloc, question, &form, text, &mut survey)?;
+    Ok(text_of(alloc, survey)?)
 }
 
 impl Session {
@@ -82,7 +59,7 @@ impl Session {
         ensures collection { self.new.collection ≡ self.old.collection }
     {
         self.keep(Vec::new(alloc));
-        let question = question_of(alloc, condition, b"", line_rows().queries)?;
+        let question = question_of(alloc, condition, b"", Queries::Filter)?;
         let found = survey_text(alloc, &question, text, fold)?;
         self.keep(found);
         Ok(())

@@ -1,20 +1,19 @@
 -- Rows in colours are shown as those without are.
-use Rattle.std.proofs.Common.{◌≡◌, ◌∙◌, ℕ, ◌+◌, ◌-◌, ◌<◌, ◌^◌, List, [], ◌∷◌, ◌++◌, length, ap, ap₂, refl, sym, subst, arith, codes, flat_map, length-append, Bool, true, false, if◌then◌else◌}
-use Rattle.std.specs.Prelude.{All, ◌&&◌, ◌||◌, not, nat_lt}
-use Rattle.std.specs.Int.{w64, to_le_bytes}
-use Rattle.std.proofs.lemmas.List.Elements.{All-cons, All-nil}
+use Rattle.std.proofs.Common.{◌≡◌, ◌∙◌, ℕ, ◌-◌, List, [], ◌∷◌, ◌++◌, ap, ap₂, refl, sym, subst, subst₂, codes, Bool, true, false, if◌then◌else◌}
+use Rattle.std.specs.Prelude.{◌&&◌, ◌||◌, not, nat_lt}
+use Rattle.std.proofs.lemmas.Bool.{false≢true, true≢false}
 use Rattle.jp_model.specs.Rows.{line_feed}
 use Rattle.jp_paint.specs.Colours.{painted}
 use Rattle.jp_paint.specs.Laws.{Paints}
 use Rattle.jp_paint.specs.declared.part.Part.TheVariants as parts
 use Rattle.jp_paint.proofs.Sequences.{joined_paints, painted_paints, plain_stays}
-use Rattle.jp_context.specs.Colours.{AllInColours, ColoursComeOffRows, ColoursComeOffTold, InColours}
-use Rattle.jp_context.specs.Groups.{context_text, is_shown, left_after, parted, selected_soon, separator, shown_before, to_follow}
+use Rattle.jp_context.specs.Colours.{AllInColours, ColoursComeOffRows, ColoursComeOffTold, InColours, TellInColours, is_gap, is_selected}
+use Rattle.jp_context.specs.Groups.{left_after, parted, selected_soon, separator, shown_before, to_follow}
 use Rattle.jp_context.specs.Steps.{text_from}
-use Rattle.jp_context.specs.Told.{ToldRow, told_rows, told_text}
+use Rattle.jp_context.specs.Told.{ToldRow, rows_from, told_rows}
 use Rattle.jp_context.specs.declared.shown.Shown.{Shown}
 use Rattle.jp_context.specs.declared.shown.Shown.TheVariants as showing
-use Rattle.jp_context.proofs.Reading.{IsShort, rows_read}
+use Rattle.jp_sink.specs.Events.{Event, event_text, gap_event, node_event, row_event}
 
 -- what parts groups of rows
 separator_paints : (is_coloured : Bool) (shown : Shown) → Paints (separator false shown) (separator is_coloured shown)
@@ -77,19 +76,38 @@ module _ (is_coloured : Bool) (before after : ℕ) where
 pub rows_alike : ColoursComeOffRows
 rows_alike is_coloured before after plain coloured same = alike is_coloured before after 0 showing.Nothing plain coloured same
 
--- a row is no longer than the bytes that tell it and others
-all_short : (rows : List ToldRow) → length (flat_map told_text rows) < 2 ^ 64 → All IsShort rows
-all_short [] h = All-nil IsShort
-all_short (row ∷ rows) h =
-    let whole = length-append (told_text row) (flat_map told_text rows) in
-    let head = length-append (to_le_bytes w64 (length row.text)) row.text in
-    All-cons IsShort row rows (omega (arith, h, whole, head)) (all_short rows (omega (arith, h, whole)))
+-- what an event tells that is no gap
+abbrev told_row : Bool → Event → ToldRow
+told_row first event = record { selected = is_selected event; first = first; text = event_text event }
 
-read_back : (rows : List ToldRow) (bytes : List ℕ) → bytes ≡ flat_map told_text rows → length bytes < 2 ^ 64 → told_rows bytes ≡ rows
-read_back rows bytes are short = ap told_rows are ∙ rows_read rows (all_short rows (subst (λ (b : List ℕ). length b < 2 ^ 64) are short))
+told_next : (first : Bool) (event : Event) (more : List Event) → is_gap event ≡ false → rows_from first (event ∷ more) ≡ told_row first event ∷ rows_from false more
+told_next first gap_event more h = absurd (true≢false h)
+told_next first (row_event selected text) more h = refl
+told_next first (node_event n line node) more h = refl
+
+after_gap : (first : Bool) (event : Event) (more : List Event) → is_gap event ≡ true → rows_from first (event ∷ more) ≡ rows_from true more
+after_gap first gap_event more h = refl
+after_gap first (row_event selected text) more h = absurd (false≢true h)
+after_gap first (node_event n line node) more h = absurd (false≢true h)
+
+-- the rows of events in colours
+rows_told : (first : Bool) (plain coloured : List Event) → TellInColours plain coloured → AllInColours (rows_from first plain) (rows_from first coloured)
+rows_told first [] [] same = same
+rows_told first [] (other ∷ coloured) same = absurd same
+rows_told first (event ∷ plain) [] same = absurd same
+rows_told first (event ∷ plain) (other ∷ coloured) same =
+    elim (is_gap event) as (λ gap. is_gap event ≡ gap → AllInColours (rows_from first (event ∷ plain)) (rows_from first (other ∷ coloured))) [
+      | true ↦ λ gap. subst₂ AllInColours (sym (after_gap first event plain gap)) (sym (after_gap first other coloured (same.0.gap ∙ gap))) (rows_told true plain coloured same.1)
+      | false ↦ λ row. subst₂ AllInColours (sym (told_next first event plain row)) (sym (told_next first other coloured (same.0.gap ∙ row)))
+          (record { selected = same.0.selected; first = refl; text = same.0.text }, rows_told false plain coloured same.1)
+    ] refl
 
 pub told_alike : ColoursComeOffTold
-told_alike is_coloured before after plain coloured (rows, others, same, are, others_are) short others_short =
-    subst (λ (told : List ToldRow). Paints (context_text false before after (told_rows plain)) (context_text is_coloured before after told)) (sym (read_back others coloured others_are others_short))
-    (subst (λ (told : List ToldRow). Paints (context_text false before after told) (context_text is_coloured before after others)) (sym (read_back rows plain are short))
-    (rows_alike is_coloured before after rows others same))
+told_alike is_coloured before after plain coloured same = rows_alike is_coloured before after (told_rows plain) (told_rows coloured) (rows_told true plain coloured same)
+
+-- events, and more after them
+pub tell_both : (plain coloured more others : List Event) → TellInColours plain coloured → TellInColours more others → TellInColours (plain ++ more) (coloured ++ others)
+tell_both [] [] more others same rest = rest
+tell_both [] (other ∷ coloured) more others same rest = absurd same
+tell_both (event ∷ plain) [] more others same rest = absurd same
+tell_both (event ∷ plain) (other ∷ coloured) more others same rest = (same.0, tell_both plain coloured more others same.1 rest)

@@ -4,11 +4,12 @@ use Rattle.std.specs.Prelude.{◌&&◌, ◌||◌, not, nat_lt, zero, suc}
 use Rattle.std.proofs.lemmas.Bool.{le-ltb, lt-ltb}
 use Rattle.std.proofs.lemmas.List.{map-append}
 use Rattle.jp_context.specs.Groups.{parted, selected_soon, separator}
-use Rattle.jp_context.specs.Steps.{kept_rows, kept_texts, next_row, show_all, text_from, will_show}
+use Rattle.jp_context.specs.Steps.{kept_rows, kept_texts, show_front, text_from, will_show}
 use Rattle.jp_context.specs.declared.state.Groups.{Groups}
-use Rattle.jp_context.specs.Told.{ToldRow}
+use Rattle.jp_context.specs.Told.{ToldRow, next_row, rows_from}
 use Rattle.jp_context.specs.declared.shown.Shown.{Shown}
 use Rattle.jp_context.specs.declared.shown.Shown.TheVariants as showing
+use Rattle.jp_sink.specs.Events.{Event, event_text, gap_event, node_event, row_event}
 
 abbrev pub row_of : Bool → Bool → List ℕ → ToldRow
 row_of selected first text = record { selected = selected; first = first; text = text }
@@ -22,7 +23,7 @@ parted_again showing.Nothing = refl
 parted_again showing.Neighbour = refl
 parted_again showing.Others = refl
 
-and_false : (b : Bool) → (b && false) ≡ false
+pub and_false : (b : Bool) → (b && false) ≡ false
 and_false true = refl
 and_false false = refl
 
@@ -54,19 +55,9 @@ one_soon count (kept ∷ texts) text more h =
     ap (λ b. b && selected_soon (count - 1) (kept_rows texts ++ next_row true text ∷ more)) (lt-ltb 0 count (omega (arith, h)))
     ∙ one_soon (count - 1) texts text more (omega (arith, h))
 
-pub one_shown : (coloured : Bool) (shown : Shown) (text rest : List ℕ) → separator coloured shown ++ (text ++ rest) ≡ show_all coloured shown (text ∷ []) ++ rest
-one_shown coloured shown text rest =
-    ap (λ (t : List ℕ). separator coloured shown ++ (t ++ rest)) (sym (append-nil text)) ∙ sym (append_assoc (separator coloured shown) (text ++ []) rest)
-
--- the text once a row is shown after those that were kept
-pub shown_last : (coloured : Bool) (text kept all whole rest row : List ℕ) (shown : Shown) → text ++ whole ≡ kept ++ show_all coloured shown (row ∷ []) → all ≡ kept ++ (separator coloured shown ++ row) → text ++ (whole ++ rest) ≡ all ++ rest
-shown_last coloured text kept all whole rest row shown first last =
-    sym (append_assoc text whole rest)
-    ∙ ap (λ (t : List ℕ). t ++ rest) (first ∙ (ap (λ (t : List ℕ). kept ++ (separator coloured shown ++ t)) (append-nil row) ∙ sym last))
-
 module _ (coloured : Bool) (before after : ℕ) where
   -- where a stream begins, what is kept is not shown
-  pub begin_empty : (left : ℕ) (shown : Shown) (selected : Bool) (text : List ℕ) (more : List ToldRow)
+  begin_empty : (left : ℕ) (shown : Shown) (selected : Bool) (text : List ℕ) (more : List ToldRow)
       → text_from coloured before after left shown (row_of selected true text ∷ more) ≡ text_from coloured before after 0 (parted shown) (next_row selected text ∷ more)
   begin_empty left shown true text more = refl
   begin_empty left shown false text more =
@@ -76,7 +67,7 @@ module _ (coloured : Bool) (before after : ℕ) where
         | false ↦ ap (λ s. text_from coloured before after 0 s more) (sym (parted_again shown))
       ]
 
-  pub begin_kept : (shown : Shown) (texts : List (List ℕ)) (selected : Bool) (text : List ℕ) (more : List ToldRow)
+  begin_kept : (shown : Shown) (texts : List (List ℕ)) (selected : Bool) (text : List ℕ) (more : List ToldRow)
       → text_from coloured before after 0 shown (kept_rows texts ++ row_of selected true text ∷ more) ≡ text_from coloured before after 0 (parted shown) (next_row selected text ∷ more)
   begin_kept shown [] selected text more = begin_empty 0 shown selected text more
   begin_kept shown (kept ∷ texts) selected text more =
@@ -85,14 +76,14 @@ module _ (coloured : Bool) (before after : ℕ) where
       ∙ (begin_kept (parted shown) texts selected text more ∙ ap (λ s. text_from coloured before after 0 s (next_row selected text ∷ more)) (parted_again shown))
 
   -- a row that is not shown goes, once enough of its stream follow it
-  pub first_goes : (shown : Shown) (kept : List ℕ) (texts : List (List ℕ)) (more : List ToldRow) → before ≤ length texts
+  first_goes : (shown : Shown) (kept : List ℕ) (texts : List (List ℕ)) (more : List ToldRow) → before ≤ length texts
       → text_from coloured before after 0 shown (next_row false kept ∷ (kept_rows texts ++ more)) ≡ text_from coloured before after 0 (parted shown) (kept_rows texts ++ more)
   first_goes shown kept texts more h =
       ap (λ b. if b then separator coloured shown ++ (kept ++ text_from coloured before after 0 showing.Neighbour (kept_rows texts ++ more)) else text_from coloured before after 0 (parted shown) (kept_rows texts ++ more))
       (none_soon_kept before texts more h)
 
   -- nothing is shown of rows that are kept alone
-  pub kept_alone : (shown : Shown) (texts : List (List ℕ)) → text_from coloured before after 0 shown (kept_rows texts) ≡ []
+  kept_alone : (shown : Shown) (texts : List (List ℕ)) → text_from coloured before after 0 shown (kept_rows texts) ≡ []
   kept_alone shown [] = refl
   kept_alone shown (kept ∷ texts) =
       ap (λ b. if b then separator coloured shown ++ (kept ++ text_from coloured before after 0 showing.Neighbour (kept_rows texts)) else text_from coloured before after 0 (parted shown) (kept_rows texts))
@@ -100,19 +91,19 @@ module _ (coloured : Bool) (before after : ℕ) where
       ∙ kept_alone (parted shown) texts
 
   -- a row that is selected shows those that are kept before it
-  pub shown_with : (shown : Shown) (texts : List (List ℕ)) (text : List ℕ) (more : List ToldRow) → length texts ≤ before
-      → text_from coloured before after 0 shown (kept_rows texts ++ next_row true text ∷ more) ≡ show_all coloured shown (texts ++ text ∷ []) ++ text_from coloured before after after showing.Neighbour more
-  shown_with shown [] text more h = one_shown coloured shown text (text_from coloured before after after showing.Neighbour more)
+  shown_with : (shown : Shown) (texts : List (List ℕ)) (text : List ℕ) (more : List ToldRow) → length texts ≤ before
+      → text_from coloured before after 0 shown (kept_rows texts ++ next_row true text ∷ more) ≡ show_front coloured shown texts ++ (text ++ text_from coloured before after after showing.Neighbour more)
+  shown_with shown [] text more h = refl
   shown_with shown (kept ∷ texts) text more h =
-      let rest = text_from coloured before after after showing.Neighbour more in
+      let front = show_front coloured showing.Neighbour texts in
+      let rest = text ++ text_from coloured before after after showing.Neighbour more in
       ap (λ b. if b then separator coloured shown ++ (kept ++ text_from coloured before after 0 showing.Neighbour (kept_rows texts ++ next_row true text ∷ more)) else text_from coloured before after 0 (parted shown) (kept_rows texts ++ next_row true text ∷ more))
       (one_soon before texts text more (omega (arith, h)))
       ∙ (ap (λ (t : List ℕ). separator coloured shown ++ (kept ++ t)) (shown_with showing.Neighbour texts text more (omega (arith, h)))
-      ∙ (ap (λ (t : List ℕ). separator coloured shown ++ t) (sym (append_assoc kept (show_all coloured showing.Neighbour (texts ++ text ∷ [])) rest))
-      ∙ sym (append_assoc (separator coloured shown) (kept ++ show_all coloured showing.Neighbour (texts ++ text ∷ [])) rest)))
+      ∙ (ap (λ (t : List ℕ). separator coloured shown ++ t) (sym (append_assoc kept front rest)) ∙ sym (append_assoc (separator coloured shown) (kept ++ front) rest)))
 
   -- the same, where no row is kept while some are still to follow
-  pub begins : (left : ℕ) (shown : Shown) (texts : List (List ℕ)) (selected : Bool) (text : List ℕ) (more : List ToldRow) → (0 < left → texts ≡ [])
+  begins : (left : ℕ) (shown : Shown) (texts : List (List ℕ)) (selected : Bool) (text : List ℕ) (more : List ToldRow) → (0 < left → texts ≡ [])
       → text_from coloured before after left shown (kept_rows texts ++ row_of selected true text ∷ more) ≡ text_from coloured before after 0 (parted shown) (next_row selected text ∷ more)
   begins zero shown texts selected text more none = begin_kept shown texts selected text more
   begins (suc left) shown [] selected text more none = begin_empty (suc left) shown selected text more
@@ -122,9 +113,9 @@ module _ (coloured : Bool) (before after : ℕ) where
       cons_not_nil q = cc
 
   pub selects : (left : ℕ) (shown : Shown) (texts : List (List ℕ)) (text : List ℕ) (more : List ToldRow) → (0 < left → texts ≡ []) → length texts ≤ before
-      → text_from coloured before after left shown (kept_rows texts ++ next_row true text ∷ more) ≡ show_all coloured shown (texts ++ text ∷ []) ++ text_from coloured before after after showing.Neighbour more
+      → text_from coloured before after left shown (kept_rows texts ++ next_row true text ∷ more) ≡ show_front coloured shown texts ++ (text ++ text_from coloured before after after showing.Neighbour more)
   selects zero shown texts text more none h = shown_with shown texts text more h
-  selects (suc left) shown [] text more none h = one_shown coloured shown text (text_from coloured before after after showing.Neighbour more)
+  selects (suc left) shown [] text more none h = refl
   selects (suc left) shown (kept ∷ texts) text more none h = absurd (cons_not_nil (none (omega arith)))
     where
       cons_not_nil : kept ∷ texts ≡ [] → ⊥
@@ -150,6 +141,16 @@ module _ (coloured : Bool) (before after : ℕ) where
   nothing_from : (left : ℕ) (shown : Shown) (texts : List (List ℕ)) → (0 < left → texts ≡ []) → text_from coloured before after left shown (kept_rows texts ++ []) ≡ []
   nothing_from zero shown texts none = ap (λ (rows : List ToldRow). text_from coloured before after 0 shown rows) (append-nil (kept_rows texts)) ∙ kept_alone shown texts
   nothing_from (suc left) shown texts none = ap (λ (t : List (List ℕ)). text_from coloured before after (suc left) shown (kept_rows t ++ [])) (none (omega arith))
+
+  -- no row that came before a gap is context of one that comes after it
+  pub parts : (left : ℕ) (shown : Shown) (texts : List (List ℕ)) (events : List Event) → (0 < left → texts ≡ [])
+      → text_from coloured before after left shown (kept_rows texts ++ rows_from true events) ≡ text_from coloured before after 0 (parted shown) (rows_from false events)
+  parts left shown texts [] none = nothing_from left shown texts none
+  parts left shown texts (gap_event ∷ events) none =
+      parts left shown texts events none
+      ∙ (ap (λ s. text_from coloured before after 0 s (rows_from false events)) (sym (parted_again shown)) ∙ sym (parts 0 (parted shown) [] events (λ some. refl)))
+  parts left shown texts (row_event selected text ∷ events) none = begins left shown texts selected text (rows_from false events) none
+  parts left shown texts (node_event n line node ∷ events) none = begins left shown texts true (event_text (node_event n line node)) (rows_from false events) none
 
 -- no row will be shown that was not, unless more come
 pub nothing_waits : (groups : Groups) → will_show groups [] ≡ []

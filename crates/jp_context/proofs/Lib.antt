@@ -1,9 +1,10 @@
 -- Lemmas on lines of context.
-pub mod Telling
 pub mod Kept
-pub mod Came
+pub mod Writing
+pub mod Showing
+pub mod Standing
 pub mod Marks
 pub mod Stays
-pub mod Reading
 pub mod Near
+pub mod Apart
 pub mod InColours

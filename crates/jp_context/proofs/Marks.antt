@@ -20,7 +20,7 @@ selected_shown before after left (row ∷ more) =
     (λ is. ap (λ b. b || (nat_lt 0 (to_follow left row) || selected_soon before more)) is) (selected_shown before after (left_after after left row) more)
 
 -- with no context none is still to follow, and none is looked for
-none_follow : (row : ToldRow) → nat_lt 0 (to_follow 0 row) ≡ false
+pub none_follow : (row : ToldRow) → nat_lt 0 (to_follow 0 row) ≡ false
 none_follow row = elim row.first as (λ b. nat_lt 0 (if b then 0 else 0) ≡ false) [ true ↦ refl | false ↦ refl ]
 
 none_left : (row : ToldRow) → left_after 0 0 row ≡ 0

@@ -9,7 +9,7 @@ use Rattle.jp_context.specs.Steps.{text_from}
 use Rattle.jp_context.specs.Told.{ToldRow}
 use Rattle.jp_context.specs.declared.shown.Shown.{Shown}
 use Rattle.jp_context.specs.declared.shown.Shown.TheVariants as showing
-use Rattle.jp_context.proofs.Came.{begins_with}
+use Rattle.jp_context.proofs.Writing.{begins_with}
 
 -- rows of one stream, of which none is selected
 abbrev is_plain : ToldRow → Bool

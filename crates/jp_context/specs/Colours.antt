@@ -1,8 +1,9 @@
 -- What rows in colours have to do with those without.
-use Rattle.std.specs.Prelude.{◌≡◌, ℕ, ◌<◌, ◌^◌, List, [], ◌∷◌, ◌++◌, flat_map, length, Bool, false, ⊤}
+use Rattle.std.specs.Prelude.{◌≡◌, ℕ, List, [], ◌∷◌, Bool, true, false, ⊤}
 use Rattle.jp_paint.specs.Laws.{Paints}
 use Rattle.jp_context.specs.Groups.{context_text}
-use Rattle.jp_context.specs.Told.{ToldRow, told_rows, told_text}
+use Rattle.jp_context.specs.Told.{ToldRow, told_rows}
+use Rattle.jp_sink.specs.Events.{Event, event_text, gap_event, node_event, row_event}
 
 -- a row, and the same in colours: its text differs by escape sequences alone
 pub record InColours (plain coloured : ToldRow) : Type 0 where
@@ -17,17 +18,35 @@ AllInColours [] (row ∷ coloured) = ⊥
 AllInColours (row ∷ plain) [] = ⊥
 AllInColours (row ∷ plain) (other ∷ coloured) = InColours row other × AllInColours plain coloured
 
--- bytes that tell rows, and those that tell the same in colours
-abbrev pub TellInColours : (plain coloured : List ℕ) → Type 0
-TellInColours plain coloured =
-    (rows others : List ToldRow) × AllInColours rows others × (plain ≡ flat_map told_text rows) × (coloured ≡ flat_map told_text others)
+abbrev pub is_gap : Event → Bool
+is_gap gap_event = true
+is_gap (row_event selected text) = false
+is_gap (node_event n line node) = false
+
+abbrev pub is_selected : Event → Bool
+is_selected gap_event = false
+is_selected (row_event selected text) = selected
+is_selected (node_event n line node) = true
+
+-- an event, and the same in colours, where a row may stand for a node
+pub record EventInColours (plain coloured : Event) : Type 0 where
+  pub gap : is_gap coloured ≡ is_gap plain
+  pub selected : is_selected coloured ≡ is_selected plain
+  pub text : Paints (event_text plain) (event_text coloured)
+
+-- as many events, each the same in colours
+abbrev pub TellInColours : (plain coloured : List Event) → Type 0
+TellInColours [] [] = ⊤
+TellInColours [] (event ∷ coloured) = ⊥
+TellInColours (event ∷ plain) [] = ⊥
+TellInColours (event ∷ plain) (other ∷ coloured) = EventInColours event other × TellInColours plain coloured
 
 -- What is shown of rows in colours differs by escape sequences alone from what is shown of them without.
 abbrev pub ColoursComeOffRows : Type 0
 ColoursComeOffRows = (is_coloured : Bool) (before after : ℕ) (plain coloured : List ToldRow) → AllInColours plain coloured
     → Paints (context_text false before after plain) (context_text is_coloured before after coloured)
 
--- So it is where they are told one after another, as far as 64 bits count their bytes.
+-- So it is where they are told.
 abbrev pub ColoursComeOffTold : Type 0
-ColoursComeOffTold = (is_coloured : Bool) (before after : ℕ) (plain coloured : List ℕ) → TellInColours plain coloured → length plain < 2 ^ 64 → length coloured < 2 ^ 64
+ColoursComeOffTold = (is_coloured : Bool) (before after : ℕ) (plain coloured : List Event) → TellInColours plain coloured
     → Paints (context_text false before after (told_rows plain)) (context_text is_coloured before after (told_rows coloured))

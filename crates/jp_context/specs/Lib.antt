@@ -2,6 +2,7 @@
 pub mod Told
 pub mod Groups
 pub mod Steps
+pub mod Standing
 pub mod Worked
 pub mod Colours
 pub mod Near

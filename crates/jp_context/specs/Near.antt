@@ -24,3 +24,16 @@ shown_at marks place = get_or (map (λ mark. mark.shown) marks) place false
 -- a row that is selected stands at most `before` rows after this place, and at most `after` rows before it
 abbrev pub IsNear : ℕ → ℕ → List ToldRow → ℕ → Type 0
 IsNear before after rows place = (chosen : ℕ) × (selected_at rows chosen ≡ true) × (chosen ≤ place + before) × (place ≤ chosen + after)
+
+-- rows of which none follows one that came before them
+abbrev pub begins_anew : List ToldRow → Bool
+begins_anew [] = true
+begins_anew (row ∷ more) = row.first
+
+-- a row is not selected
+abbrev pub is_passed : ToldRow → Bool
+is_passed row = not row.selected
+
+-- a row that is not shown
+abbrev pub hidden : ToldRow → Mark
+hidden row = record { row = row; shown = false }

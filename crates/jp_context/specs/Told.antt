@@ -1,54 +1,25 @@
--- Rows as a search tells them: each with a head, which says what it is and how long (profile).
-use Rattle.std.specs.Prelude.{ℕ, ◌+◌, List, [], ◌∷◌, ◌++◌, length, drop, take, slice_index, Bool, ◌&&◌, not, ◌==◌, nat_le, if◌then◌else◌}
-use Rattle.std.specs.Int.{w64, from_le_bytes, to_le_bytes}
-use Rattle.jp_context.specs.declared.told.Told.{Told}
+-- The rows of what a search tells.
+use Rattle.std.specs.Prelude.{ℕ, List, [], ◌∷◌, Bool, true, false}
+use Rattle.jp_sink.specs.Events.{Event, event_text, gap_event, node_event, row_event}
 
--- A row that a search tells: whether its item is selected, whether it is the first of its stream, and what it shows.
+-- A row that a search tells: whether its line is selected, whether it is the first of its stream or after a line that was given up,
+-- so that it does not follow the row before it, and what it shows.
 pub record ToldRow : Type 0 where
   pub selected : Bool
   pub first : Bool
   pub text : List ℕ
 
-abbrev pub told_row : Told → ToldRow
-told_row told = record { selected = told.is_selected; first = told.is_first; text = told.text.now }
+-- a row that follows the one before it
+abbrev pub next_row : (selected : Bool) → List ℕ → ToldRow
+next_row selected text = record { selected = selected; first = false; text = text }
 
--- a yes is the byte 1, a no the byte 0
-abbrev pub flag : Bool → ℕ
-flag is = if is then 1 else 0
+-- the rows that are told, where `first` says whether a gap came after the row before them: a node is one that is selected
+abbrev pub rows_from : (first : Bool) → List Event → List ToldRow
+rows_from first [] = []
+rows_from first (gap_event ∷ more) = rows_from true more
+rows_from first (row_event selected text ∷ more) = record { selected = selected; first = first; text = text } ∷ rows_from false more
+rows_from first (node_event n line node ∷ more) = record { selected = true; first = first; text = event_text (node_event n line node) } ∷ rows_from false more
 
--- the bytes of a row that is told: a head of two answers and the length of the row in eight bytes, the lowest first, and then
--- the row
-abbrev pub told_text : ToldRow → List ℕ
-told_text row = flag row.selected ∷ flag row.first ∷ to_le_bytes w64 (length row.text) ++ row.text
-
--- the row that such bytes tell: any byte but 0 is a yes
-abbrev pub row_told_by : List ℕ → ToldRow
-row_told_by bytes = record { selected = not (slice_index bytes 0 == 0); first = not (slice_index bytes 1 == 0); text = drop 10 bytes }
-
--- how long the row is, by the head
-unfoldable pub told_length : List ℕ → ℕ
-told_length bytes = from_le_bytes w64 (take 8 (drop 2 bytes))
-
--- bytes are a whole told row: the head, and as many more as it says
-abbrev pub is_whole : List ℕ → Bool
-is_whole bytes = nat_le 10 (length bytes) && length bytes == 10 + told_length bytes
-
--- the rows that bytes tell after these, which are the front of one
-abbrev pub rows_after : List ℕ → List ℕ → List ToldRow
-rows_after front [] = []
-rows_after front (byte ∷ more) =
-    if is_whole (front ++ byte ∷ []) then row_told_by (front ++ byte ∷ []) ∷ rows_after [] more
-    else rows_after (front ++ byte ∷ []) more
-
--- and what they have of a row that is not whole
-abbrev pub rest_after : List ℕ → List ℕ → List ℕ
-rest_after front [] = front
-rest_after front (byte ∷ more) = if is_whole (front ++ byte ∷ []) then rest_after [] more else rest_after (front ++ byte ∷ []) more
-
--- the rows that bytes tell
-abbrev pub told_rows : List ℕ → List ToldRow
-told_rows bytes = rows_after [] bytes
-
--- what follows the last of them
-abbrev pub open_row : List ℕ → List ℕ
-open_row bytes = rest_after [] bytes
+-- and from the beginning, before which a gap stands whether it is told or not
+abbrev pub told_rows : List Event → List ToldRow
+told_rows events = rows_from true events

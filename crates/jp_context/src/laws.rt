@@ -1,11 +1,12 @@
-//! Laws of the rows that are shown, and of how rows are told.
+//! Laws of the rows that are shown.
 
-ghost use Rattle.std.specs.Prelude.{◌≡◌, ◌++◌, ◌^◌, ◌<◌, [], ℕ, Bool, List, All, flat_map, length, map, true};
+ghost use Rattle.std.specs.Prelude.{◌≡◌, ◌++◌, ◌<◌, ◌≤◌, [], ℕ, Bool, List, All, false, length, map, true};
+ghost use Rattle.std.specs.List.{list_all};
 ghost use Rattle.jp_devices.specs.Devices.{Begins};
 ghost use Rattle.jp_context.specs.Colours.{ColoursComeOffRows, ColoursComeOffTold};
 ghost use Rattle.jp_context.specs.Groups.{context_text, marks};
-ghost use Rattle.jp_context.specs.Near.{IsNear, is_stream, shown_at};
-ghost use Rattle.jp_context.specs.Told.{ToldRow, open_row, told_rows, told_text};
+ghost use Rattle.jp_context.specs.Near.{IsNear, begins_anew, hidden, is_passed, is_stream, shown_at};
+ghost use Rattle.jp_context.specs.Told.{ToldRow};
 
 /// Each row that is selected is shown, whatever stands near it. This refuses a definition in which a row that is already shown
 /// after another is passed over as one that is selected.
@@ -26,6 +27,17 @@ pub fn rows_near_selected_ones_are_shown()
     ensures shown { (before after : ℕ) (rows : List ToldRow) → is_stream rows ≡ true → (place : ℕ) → place < length rows → IsNear before after rows place → shown_at (marks before after rows) place ≡ true }
 {}
 
+/// Streams are shown apart, as the two sides of a line that was given up are: no row is context of one on the other side of a gap.
+/// This refuses a definition that counts rows on across one.
+pub fn streams_are_shown_apart()
+    ensures { (before after : ℕ) (rows more : List ToldRow) → begins_anew more ≡ true → marks before after (rows ++ more) ≡ marks before after rows ++ marks before after more }
+{}
+
+/// No row is shown of a stream in which nothing is selected.
+pub fn streams_without_a_selected_row_are_hidden()
+    ensures { (before after : ℕ) (rows : List ToldRow) → list_all is_passed rows ≡ true → marks before after rows ≡ map hidden rows }
+{}
+
 /// Each row is judged once, in order, so none is shown twice. This refuses a definition that shows a row both after one that is
 /// selected and before the next one.
 pub fn each_row_is_judged_once()
@@ -37,16 +49,9 @@ pub fn what_is_shown_stays()
     ensures { (coloured : Bool) (before after : ℕ) (rows more : List ToldRow) → Begins (context_text coloured before after rows) (context_text coloured before after (rows ++ more)) }
 {}
 
-/// Rows that are told one after another are read as they were told, and nothing is left. This refuses heads that say another
-/// length, or from which a row that holds any bytes cannot be told.
-pub fn told_rows_are_read()
-    ensures rows { (rows : List ToldRow) → All (λ row. length row.text < 2 ^ 64) rows → told_rows (flat_map told_text rows) ≡ rows }
-    ensures rest { (rows : List ToldRow) → All (λ row. length row.text < 2 ^ 64) rows → open_row (flat_map told_text rows) ≡ [] }
-{}
-
 /// Rows that differ from others by the escape sequences of colours alone are shown where those are, and what is shown differs by
-/// escape sequences alone: also where groups are parted by hyphens in colour, and where the rows are told as bytes. This refuses a
-/// definition in which colours make a row longer than its head says, or in which the hyphens of groups are let out with colours.
+/// escape sequences alone: also where groups are parted by hyphens in colour, and where a row in colours is told for a node. This
+/// refuses a definition in which the hyphens of groups are let out with colours.
 pub fn rows_in_colours_are_shown_alike()
     ensures rows { ColoursComeOffRows }
     ensures told { ColoursComeOffTold }

@@ -1,10 +1,12 @@
 //! What was shown.
 
-ghost use Rattle.std.specs.Prelude.{◌≡◌, ◌++◌, OnOk};
+ghost use Rattle.std.specs.Prelude.{◌≡◌, ◌++◌, false, is_err};
 ghost use Rattle.jp_context.specs.Groups.{parted, separator};
+ghost use Rattle.jp_context.specs.declared.shown.Shown.TheVariants as showing;
+ghost use Rattle.jp_sink.specs.Texts.{WritesOn};
 
-use jp_paint::{Part, push_painted};
-use std::alloc::AllocError;
+use jp_sink::{TextSink, Untold};
+use std::io::Write;
 
 /// What was shown before a row.
 #[derive(Clone, Copy, Debug)]
@@ -28,29 +30,43 @@ impl Shown {
         }
     }
 
-    /// Shows what parts a row from what was shown.
-    fn part(self, coloured: bool, text: &mut Vec<u8>) -> Result<(), AllocError>
-        ensures { OnOk result (text.new.items ≡ text.old.items ++ separator coloured self) }
+    /// Writes what parts a row from what was shown.
+    pub(crate) fn part<W: Write>(self, coloured: bool, text: &mut TextSink<W>) -> Result<(), Untold>
+        requires working { text.old.out.failed ≡ false }
+        ensures written { WritesOn text.old text.new result (separator coloured self) }
+        ensures failed { text.new.out.failed ≡ is_err result }
+        ensures after { text.new.out.after ≡ text.old.out.after }
     {
         match self {
             Shown::Nothing | Shown::Neighbour => Ok(()),
-            Shown::Others => {
-                push_painted(coloured, Part::Sign, b"--", text)?;
-                Ok(text.push(b'\n')?)
-            }
+            Shown::Others => text.put(hyphens(coloured)),
         }
     }
 
-    /// Shows a row.
-    pub(crate) fn show(
+    /// Writes a row, and before it what parts it from what was shown.
+    pub(crate) fn show<W: Write>(
         self,
         coloured: bool,
         row: &[u8],
-        text: &mut Vec<u8>,
-    ) -> Result<(), AllocError>
-        ensures { OnOk result (text.new.items ≡ text.old.items ++ (separator coloured self ++ row.now)) }
+        text: &mut TextSink<W>,
+    ) -> Result<(), Untold>
+        requires working { text.old.out.failed ≡ false }
+        ensures written { WritesOn text.old text.new result (separator coloured self ++ row.now) }
+        ensures failed { text.new.out.failed ≡ is_err result }
+        ensures after { text.new.out.after ≡ text.old.out.after }
     {
         self.part(coloured, text)?;
-        text.extend_from_slice(row)
+        text.put(row)
+    }
+}
+
+/// Two hyphens, in the colour of a sign where rows have colours.
+fn hyphens(coloured: bool) -> &'static [u8]
+    ensures { result.now ≡ separator coloured showing.Others }
+{
+    if coloured {
+        b"\x1b[36m\x1b[K--\x1b[m\x1b[K\n"
+    } else {
+        b"--\n"
     }
 }

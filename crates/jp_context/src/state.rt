@@ -25,6 +25,8 @@ pub(crate) struct Groups {
     pub(crate) shown: Shown,
     /// The last rows of the stream, where they are not shown yet.
     pub(crate) kept: VecDeque<Vec<u8>>,
+    /// Room for the next row that is kept, so that a row that goes leaves its memory to another.
+    pub(crate) spare: Vec<u8>,
     ghost few: { length kept.items ≤ layout.before },
     ghost none: { 0 < left → kept.items ≡ [] },
 }

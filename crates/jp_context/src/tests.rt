@@ -1,57 +1,26 @@
-//! Which rows are shown, and how rows are told.
+//! Which rows are shown.
 
-use crate::{Context, Told, push_told};
+use crate::Context;
+use jp_sink::{Sink, Untold};
 use std::alloc::Global;
-use std::io::Write;
+use std::io::{self, Write};
 use std::process::Abort;
 use std::test::Fail;
 
-/// The bytes that tell rows of one letter each: a capital letter is selected, and a row after a `|` is the first of its stream.
-fn tell(alloc: Global, letters: &str) -> Result<Vec<u8>, Fail> {
-    let mut rows = Vec::new(alloc);
-    let mut is_first = true;
+/// Tells rows of one letter each: a capital letter is selected, and a bar is a gap.
+fn tell<W: Write>(rt: &impl Abort, letters: &str, context: &mut Context<W>) -> Result<(), Untold> {
     for letter in letters.bytes() {
+        assert!(rt; !context.has_failed());
         if letter == b'|' {
-            is_first = true;
+            context.gap();
             continue;
         }
-        let text = [letter, b'\n'];
-        let is_selected = letter.is_ascii_uppercase();
-        push_told(
-            Told {
-                is_selected,
-                is_first,
-                text: &text,
-            },
-            &mut rows,
-        )?;
-        is_first = false;
+        context.row(letter.is_ascii_uppercase(), &[letter, b'\n'])?;
     }
-    Ok(rows)
+    Ok(())
 }
 
-/// What is shown of such rows, where `together` bytes are written at a time.
-fn show(
-    rt: &impl Abort,
-    alloc: Global,
-    before: u64,
-    after: u64,
-    letters: &str,
-    together: usize,
-) -> Result<Vec<u8>, Fail> {
-    assert!(rt; together > 0);
-    let rows = tell(alloc, letters)?;
-    let mut context = Context::new(alloc, before, after, false, Vec::new(alloc));
-    for piece in rows.chunks(together) {
-        let taken = context.write(piece)?;
-        assert_eq!(rt; taken, piece.len());
-        context.flush()?;
-    }
-    assert!(rt; !context.is_full());
-    Ok(context.into_inner().into_inner())
-}
-
-/// Whether this is shown, with all bytes in one write, and with each in its own.
+/// Whether this is shown of such rows.
 fn shows(
     rt: &impl Abort,
     alloc: Global,
@@ -60,27 +29,11 @@ fn shows(
     letters: &str,
     wanted: &str,
 ) -> Result<(), Fail> {
-    for together in [1, 3, 10, 12, 1000] {
-        let shown = show(rt, alloc, before, after, letters, together)?;
-        assert_eq!(rt; shown.as_slice(), wanted.as_bytes());
-    }
-    Ok(())
-}
-
-#[test]
-fn tells_a_row(rt: HostRuntime) -> Result<(), Fail> {
-    let mut rows = Vec::new(rt.alloc());
-    rows.push(7)?;
-    let told = Told {
-        is_selected: true,
-        is_first: false,
-        text: b"ab\n",
-    };
-    push_told(told, &mut rows)?;
-    assert_eq!(rt;
-        rows.as_slice(),
-        [7, 1, 0, 3, 0, 0, 0, 0, 0, 0, 0, b'a', b'b', b'\n'].as_slice()
-    );
+    let mut context = Context::new(alloc, before, after, false, Vec::new(alloc));
+    assert!(rt; tell(rt, letters, &mut context).is_ok());
+    let out = context.finish();
+    assert!(rt; !out.failed());
+    assert_eq!(rt; out.into_inner().as_slice(), wanted.as_bytes());
     Ok(())
 }
 
@@ -116,33 +69,72 @@ fn without_context_rows_apart_are_parted(rt: HostRuntime) -> Result<(), Fail> {
 
 #[test]
 fn streams_are_parted(rt: HostRuntime) -> Result<(), Fail> {
-    shows(&rt, rt.alloc(), 2, 2, "abC|def|G", "a\nb\nC\n--\nG\n")?;
-    shows(&rt, rt.alloc(), 0, 0, "A|B", "A\n--\nB\n")?;
-    shows(&rt, rt.alloc(), 1, 5, "ab|C", "C\n")
+    shows(&rt, rt.alloc(), 2, 2, "|abC|def|G", "a\nb\nC\n--\nG\n")?;
+    shows(&rt, rt.alloc(), 0, 0, "|A|B", "A\n--\nB\n")?;
+    shows(&rt, rt.alloc(), 1, 5, "|ab|C", "C\n")
 }
 
 #[test]
-fn takes_any_bytes(rt: HostRuntime) -> Result<(), Fail> {
-    let mut context = Context::new(rt.alloc(), 0, 0, false, Vec::new(rt.alloc()));
-    let _ = context.write(&[
-        9, 5, 1, 0, 0, 0, 0, 0, 0, 0, b'x', 255, 255, 255, 255, 255, 255, 255, 255, 255, 255, 1,
-    ])?;
+fn rows_of_many_lengths_are_kept(rt: HostRuntime) -> Result<(), Fail> {
+    let mut context = Context::new(rt.alloc(), 2, 0, false, Vec::new(rt.alloc()));
+    for row in [
+        b"long, and let go\n".as_slice(),
+        b"\n",
+        b"longer than that\n",
+        b"x\n",
+    ] {
+        assert!(rt; !context.has_failed());
+        assert!(rt; context.row(false, row).is_ok());
+    }
+    assert!(rt; !context.has_failed());
+    assert!(rt; context.row(true, b"Y\n").is_ok());
     assert_eq!(rt;
-        context.into_inner().into_inner().as_slice(),
-        b"x".as_slice()
+        context.finish().into_inner().as_slice(),
+        b"longer than that\nx\nY\n".as_slice()
     );
     Ok(())
 }
 
 #[test]
 fn parts_in_colour(rt: HostRuntime) -> Result<(), Fail> {
-    let rows = tell(rt.alloc(), "AbC")?;
     let mut context = Context::new(rt.alloc(), 0, 0, true, Vec::new(rt.alloc()));
-    let _ = context.write(&rows)?;
+    assert!(rt; tell(&rt, "AbC", &mut context).is_ok());
     // As `grep -B0 --color=always` of GNU grep 3.11 writes it.
     assert_eq!(rt;
-        context.into_inner().into_inner().as_slice(),
+        context.finish().into_inner().as_slice(),
         b"A\n\x1b[36m\x1b[K--\x1b[m\x1b[K\nC\n".as_slice()
     );
     Ok(())
+}
+
+#[test]
+fn flushes_and_fails_as_its_writer(rt: HostRuntime) -> Result<(), Fail> {
+    let mut context = Context::new(rt.alloc(), 1, 0, false, Short { room: 5 });
+    assert!(rt; tell(&rt, "aBcD", &mut context).is_ok());
+    assert!(rt; context.is_unflushed());
+    assert!(rt; !context.has_failed());
+    assert!(rt; matches!(context.flush(), Err(Untold::Sink)));
+    assert!(rt; context.has_failed());
+    let out = context.finish();
+    assert!(rt; out.failed());
+    assert_eq!(rt; out.after(), 0);
+    Ok(())
+}
+
+/// Takes some bytes, and then none.
+#[derive(Drop)]
+struct Short {
+    room: usize,
+}
+
+impl Write for Short {
+    fn write(&mut self, bytes: &[u8]) -> io::Result<usize> {
+        let taken = bytes.len().min(self.room);
+        self.room -= taken;
+        Ok(taken)
+    }
+
+    fn flush(&mut self) -> io::Result<()> {
+        Ok(())
+    }
 }

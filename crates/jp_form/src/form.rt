@@ -41,10 +41,11 @@ pub enum Shown {
     Nothing,
     /// The line; of a refused one the word of its fault and a tab in front, where they are wanted.
     Line { faults: bool },
-    /// The line, told to a writer that shows lines around selected ones: a head stands in front of its row (`jp_context`). Each
-    /// other line is told too, as it is, with a hyphen after its name and its number: one that is not selected, a blank one and
-    /// a refused one.
+    /// The line, told to a sink that shows lines around selected ones. Each other line is told too, as it is, with a hyphen after
+    /// its name and its number: one that is not selected, a blank one and a refused one.
     Around,
+    /// The line or the node that is selected, told as it is to a sink that makes no rows of it. A refused line has none.
+    Nodes,
     /// Each value that the queries select, in a row of its own; with its normalized path and a tab in front where they are
     /// wanted. A refused line has none.
     Values { paths: bool },

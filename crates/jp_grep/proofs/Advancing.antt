@@ -2,7 +2,7 @@
 use Rattle.std.proofs.Common.{◌≡◌, ◌∙◌, ◌-◌, ℕ, List, [], ◌++◌, refl, sym, ap, subst, append-nil, arith, Bool, true, false, Option, Result, Ok, Err, IsErr, inr}
 use Rattle.std.specs.Prelude.{IfErr, IsErrAnd, MatchResult, OnOk}
 use Rattle.jp_model.specs.declared.Framing.{Framing}
-use Rattle.jp_devices.specs.Devices.{Device, Received, Writes}
+use Rattle.jp_devices.specs.Devices.{Device, Writes}
 use Rattle.jp_model.specs.Lines.{without_byte_order_mark}
 use Rattle.jp_masks.specs.Found.{lines_in}
 use Rattle.jp_devices.proofs.Chains.{Part, ends_in_part}
@@ -11,10 +11,12 @@ use Rattle.jp_grep.specs.Faults.{IsToldOf, is_front_fault, is_inner_fault, is_in
 use Rattle.jp_grep.specs.Fronts.{AreRefused}
 use Rattle.jp_grep.specs.Items.{Item}
 use Rattle.jp_grep.specs.Positions.{IsAt}
-use Rattle.jp_grep.specs.Rows.{messages_from, output_from}
+use Rattle.jp_grep.specs.Rows.{events_from, messages_from}
 use Rattle.jp_grep.specs.Searching.{Answers, GoesOnBy, IsUnderWay, answered_after}
 use Rattle.jp_grep.specs.Sizes.{TellsOfNumbers, TellsOfSize}
 use Rattle.jp_grep.specs.Streams.{closed_in}
+use Rattle.jp_grep.specs.Telling.{Puts}
+use Rattle.jp_sink.specs.Events.{Event}
 use Rattle.jp_grep.specs.declared.fault.SearchFault.{SearchFault}
 use Rattle.jp_grep.specs.declared.fault.SearchFault.TheVariants as faults
 use Rattle.jp_form.specs.declared.form.Form.{Form}
@@ -24,7 +26,8 @@ use Rattle.jp_grep.specs.declared.source.Source.{Source}
 use Rattle.jp_grep.proofs.Counted.{none_up_to}
 use Rattle.jp_grep.proofs.Position.{cut_closed, grows}
 use Rattle.jp_grep.proofs.Coming.{came_same}
-use Rattle.jp_grep.proofs.Written.{none_received, none_written, part_so_far}
+use Rattle.jp_grep.proofs.Putting.{ends_put, none_put, nothing_put, whole_put}
+use Rattle.jp_grep.proofs.Written.{none_received, none_written}
 
 -- ---- what is said of a result
 
@@ -35,11 +38,6 @@ holds_at_ok (Err e) p = tt
 pub says_nothing : {A E : Type 0} (P : Type 0) (r : Result A E) → IsErr r → OnOk r P
 says_nothing P (Ok x) h = absurd (cc)
 says_nothing P (Err e) h = tt
-
--- what was received as a whole was written, whatever comes after
-pub whole_written : {W A E : Type 0} {contents : W → Option (List ℕ)} (r : Result A E) (old new : Device W) (text : List ℕ) → Received contents old new text → Writes contents old new r text
-whole_written (Ok x) old new text w = w
-whole_written (Err e) old new text w = part_so_far old new text w
 
 pub at_err : {A E : Type 0} (P : E → Type 0) (r : Result A E) → ((e : E) → P e) → IfErr r P
 at_err P (Ok x) f = tt
@@ -52,10 +50,10 @@ of_writer fault h e = apart (sym h ∙ e)
     apart : true ≡ false → ⊥
     apart f = cc
 
--- where no other fault is told, nothing is said of others
-pub only_writes : (P : Type 0) (r : Result Unit SearchFault) → IfErr r (λ fault. fault ≡ faults.Write) → IfErr r (λ fault. is_writer_fault fault ≡ false → P)
-only_writes P (Ok x) h = tt
-only_writes P (Err e) h = λ other. absurd (of_writer e (ap is_writer_fault h) other)
+-- where the faults of writers alone are told, nothing is said of others
+pub only_writers : (P : Type 0) (r : Result Unit SearchFault) → IfErr r (λ fault. is_writer_fault fault ≡ true) → IfErr r (λ fault. is_writer_fault fault ≡ false → P)
+only_writers P (Ok x) h = tt
+only_writers P (Err e) h = λ other. absurd (of_writer e h other)
 
 -- a beginning of any text is nothing
 pub nothing_of : {W : Type 0} {contents : W → Option (List ℕ)} (device : Device W) (text : List ℕ) → Part contents device device text
@@ -124,27 +122,27 @@ module _ (question : Question) (form : Form) where
   pub none_by : (progress : Progress) → IsUnderWay form progress → GoesOnBy question form progress progress []
   none_by progress h = record { number = omega arith; selected = omega arith; refused = omega arith; given_up = omega arith; trailed = omega arith; under_way = h }
 
-  module _ {W E : Type 0} (rows_in : W → Option (List ℕ)) (messages_in : E → Option (List ℕ)) (progress : Progress) (out : Device W) (told : Device E) (r : Result Unit SearchFault) where
-    unwritten : IfErr r (λ fault. is_writer_fault fault ≡ false → (out ≡ out) × (told ≡ told) × (progress ≡ progress))
+  module _ {S E : Type 0} (stands stopped : S → List Event → Type 0) (messages_in : E → Option (List ℕ)) (progress : Progress) (sink : S) (told : Device E) (r : Result Unit SearchFault) where
+    unwritten : IfErr r (λ fault. is_writer_fault fault ≡ false → (sink ≡ sink) × (told ≡ told) × (progress ≡ progress))
     unwritten = at_err _ r (λ fault. λ other. (refl, refl, refl))
 
     -- no line is answered
-    pub answers_none : IsUnderWay form progress → Answers rows_in messages_in question form progress progress out out told told r []
+    pub answers_none : IsUnderWay form progress → Answers stands stopped messages_in question form progress progress sink sink told told r []
     answers_none h = record {
       outcomes = [];
       each = tt;
-      rows = subst (λ ls. Writes rows_in out out r (output_from question form progress.number ls)) (sym (none_answered progress)) (none_written rows_in r out);
+      rows = subst (λ ls. Puts stands stopped sink sink r (events_from question form progress.number ls)) (sym (none_answered progress)) (whole_put stands stopped r sink sink [] (none_put stands stopped sink));
       messages = subst (λ ls. Writes messages_in told told r (messages_from form progress.counts.refused progress.number ls)) (sym (none_answered progress)) (none_written messages_in r told);
       progress = holds_at_ok r (subst (λ ls. GoesOnBy question form progress progress ls) (sym (none_answered progress)) (none_by progress h));
       unwritten = unwritten;
     }
 
     -- none of some lines is
-    pub answers_nothing : (items : List Item) → IsErr r → Answers rows_in messages_in question form progress progress out out told told r items
+    pub answers_nothing : (items : List Item) → IsErr r → Answers stands stopped messages_in question form progress progress sink sink told told r items
     answers_nothing items failed = record {
       outcomes = items;
       each = came_same items;
-      rows = ends_in_part r out out _ failed (nothing_of out _);
+      rows = ends_put stands stopped r sink sink _ failed (nothing_put stands stopped sink _);
       messages = ends_in_part r told told _ failed (nothing_of told _);
       progress = says_nothing _ r failed;
       unwritten = unwritten;
@@ -172,13 +170,13 @@ held_refused framing came held piece answered true fault e refused at = (at.none
 held_refused framing came held piece answered false fault e refused at = absurd (cc)
 
 -- a fault that is handed on says of the lines what it said
-module _ (question : Question) (form : Form) {W E : Type 0} {rows_in : W → Option (List ℕ)} {messages_in : E → Option (List ℕ)} where
-  pub answers_in_part : (before after : Progress) (out0 out1 : Device W) (told0 told1 : Device E) (items : List Item) (e : SearchFault) (r : Result Unit SearchFault) → IsErr r → IsErrAnd r (λ y. y ≡ e)
-      → Answers rows_in messages_in question form before after out0 out1 told0 told1 (Err e) items → Answers rows_in messages_in question form before after out0 out1 told0 told1 r items
-  answers_in_part before after out0 out1 told0 told1 items e r failed is h = record {
+module _ (question : Question) (form : Form) {S E : Type 0} {stands stopped : S → List Event → Type 0} {messages_in : E → Option (List ℕ)} where
+  pub answers_in_part : (before after : Progress) (sink0 sink1 : S) (told0 told1 : Device E) (items : List Item) (e : SearchFault) (r : Result Unit SearchFault) → IsErr r → IsErrAnd r (λ y. y ≡ e)
+      → Answers stands stopped messages_in question form before after sink0 sink1 told0 told1 (Err e) items → Answers stands stopped messages_in question form before after sink0 sink1 told0 told1 r items
+  answers_in_part before after sink0 sink1 told0 told1 items e r failed is h = record {
     outcomes = h.outcomes;
     each = h.each;
-    rows = ends_in_part r out0 out1 _ failed h.rows;
+    rows = ends_put stands stopped r sink0 sink1 _ failed h.rows;
     messages = ends_in_part r told0 told1 _ failed h.messages;
     progress = says_nothing _ r failed;
     unwritten = handed_on _ r e is h.unwritten;

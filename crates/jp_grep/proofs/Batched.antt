@@ -2,14 +2,14 @@
 use Rattle.std.proofs.Common.{◌≡◌, ◌∙◌, ◌<◌, ◌+◌, ◌-◌, ℕ, List, [], ◌∷◌, ◌++◌, length, sym, ap, ap₂, append_assoc, append-nil, arith, inl, inr, Some}
 use Rattle.std.specs.Prelude.{cond, ◌⊎◌}
 use Rattle.jp_grep.specs.Items.{Item, is_unjudged, unjudged_count}
-use Rattle.jp_grep.specs.Rows.{item_message, item_rows, messages_from, output_from, refused_count, selected_count, selected_in}
+use Rattle.jp_grep.specs.Rows.{item_message, item_events, messages_from, events_from, refused_count, selected_count, selected_in}
 use Rattle.jp_grep.specs.Outcomes.{CameOfEach}
 use Rattle.jp_grep.specs.Searching.{GoesOnBy, answered_after}
 use Rattle.jp_grep.specs.Watching.{IsEnough, IsShort, cut_to, up_to}
 use Rattle.jp_form.specs.declared.form.Form.{Form}
 use Rattle.jp_grep.specs.declared.progress.Progress.{Progress}
 use Rattle.jp_grep.specs.declared.question.Question.{Question}
-use Rattle.jp_grep.proofs.Counted.{messages-append, messages_one, next_up_to, none_up_to, output-append, output_one, up_to-append}
+use Rattle.jp_grep.proofs.Counted.{messages-append, messages_one, next_up_to, none_up_to, events-append, events_one, up_to-append}
 
 none_left : (most before count : ℕ) → before + count ≡ most → (most - before) - count ≡ 0
 none_left most before count e = omega (arith, e)
@@ -58,8 +58,8 @@ module _ (question : Question) (form : Form) (before : Progress) (done : List It
     with_next = next [] ∙ ap (λ l. answered_after question form before done ++ cut_to (form.most - now.counts.selected) item ∷ l) (none_up_to question _ _)
 
 module _ (question : Question) (form : Form) (done : List Item) (item : Item) where
-  pub rows_more : (n : ℕ) → output_from question form n (done ++ item ∷ []) ≡ output_from question form n done ++ item_rows question form (n + length done) item
-  rows_more n = output-append question form n done (item ∷ []) ∙ ap (λ l. output_from question form n done ++ l) (output_one question form (n + length done) item)
+  pub rows_more : (n : ℕ) → events_from question form n (done ++ item ∷ []) ≡ events_from question form n done ++ item_events question form (n + length done) item
+  rows_more n = events-append question form n done (item ∷ []) ∙ ap (λ l. events_from question form n done ++ l) (events_one question form (n + length done) item)
 
   pub messages_more : (before n : ℕ) → messages_from form before n (done ++ item ∷ []) ≡ messages_from form before n done ++ item_message form (before + refused_count done) (n + length done) item
   messages_more before n =
@@ -67,11 +67,11 @@ module _ (question : Question) (form : Form) (done : List Item) (item : Item) wh
 
   -- what is written of all: of those before the item, of it, and of those after it
   pub rows_around : (n : ℕ) (all rest : List Item) → all ≡ (done ++ item ∷ []) ++ rest
-      → output_from question form n all ≡ (output_from question form n done ++ item_rows question form (n + length done) item) ++ output_from question form (n + length (done ++ item ∷ [])) rest
+      → events_from question form n all ≡ (events_from question form n done ++ item_events question form (n + length done) item) ++ events_from question form (n + length (done ++ item ∷ [])) rest
   rows_around n all rest e =
-      ap (output_from question form n) e
-      ∙ output-append question form n (done ++ item ∷ []) rest
-      ∙ ap (λ l. l ++ output_from question form (n + length (done ++ item ∷ [])) rest) (rows_more n)
+      ap (events_from question form n) e
+      ∙ events-append question form n (done ++ item ∷ []) rest
+      ∙ ap (λ l. l ++ events_from question form (n + length (done ++ item ∷ [])) rest) (rows_more n)
 
   pub messages_around : (before n : ℕ) (all rest : List Item) → all ≡ (done ++ item ∷ []) ++ rest
       → messages_from form before n all

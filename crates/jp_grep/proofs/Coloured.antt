@@ -1,12 +1,10 @@
 -- Rows in colours, and the same without.
-use Rattle.std.proofs.Common.{◌≡◌, ◌∙◌, ℕ, zero, suc, ◌+◌, cond, List, [], ◌∷◌, ◌++◌, ap, refl, sym, subst, codes, decimal, filter, flat_map, map, take, Bool, true, false, if◌then◌else◌, Option, Some, None}
-use Rattle.std.specs.Prelude.{All, ⊤, not, ◌==◌, ◌&&◌}
-use Rattle.std.specs.List.{concat}
-use Rattle.std.proofs.lemmas.Grind.{flat_map-append}
+use Rattle.std.proofs.Common.{◌≡◌, ℕ, zero, suc, ◌+◌, cond, List, [], ◌∷◌, ◌++◌, refl, sym, subst, codes, decimal, filter, flat_map, map, take, Bool, true, false, if◌then◌else◌, Option, Some, None}
+use Rattle.std.specs.Prelude.{All, not, ◌==◌, ◌&&◌}
+use Rattle.jp_sink.specs.Events.{Event, event_text, gap_event, node_event, row_event, text_of}
 use Rattle.std.proofs.lemmas.List.Elements.{All-head, All-tail, filter-append}
-use Rattle.jp_context.specs.Colours.{AllInColours, InColours, TellInColours}
-use Rattle.jp_context.specs.Told.{ToldRow, told_text}
-use Rattle.jp_context.proofs.InColours.{told_alike}
+use Rattle.jp_context.specs.Colours.{EventInColours, TellInColours}
+use Rattle.jp_context.proofs.InColours.{tell_both, told_alike}
 use Rattle.jp_form.specs.declared.form.Form.{Form}
 use Rattle.jp_form.specs.declared.form.Shown.{Shown}
 use Rattle.jp_form.specs.declared.form.Shown.TheVariants as shown
@@ -28,10 +26,11 @@ use Rattle.jp_paint.specs.Laws.{Paints}
 use Rattle.jp_paint.specs.Marked.{is_marked, marked_from, turn}
 use Rattle.jp_paint.specs.declared.part.Part.TheVariants as parts
 use Rattle.jp_paint.proofs.Sequences.{joined_paints, marked_paints, painted_paints, plain_stays}
-use Rattle.jp_grep.specs.Colours.{ColoursComeOffContext, ColoursComeOffRows, ColoursComeOffSummaries, HeadersHaveNoColours, IsTold, MarksSources, Searched, rows_of, searched_without, without_colours}
-use Rattle.jp_grep.specs.Items.{Item, framing_by, judged}
+use Rattle.jp_grep.specs.Colours.{ColoursComeOffContext, ColoursComeOffRows, ColoursComeOffSummaries, HeadersHaveNoColours, IsMarked, MarksSources, Searched, events_of, searched_without, without_colours}
+use Rattle.jp_grep.specs.Items.{Item, framing_by, is_given_up, judged}
 use Rattle.jp_grep.specs.Matching.{nodes_of, queries_of, selected_nodes, selected_of, wanted_of, wants_refused}
-use Rattle.jp_grep.specs.Rows.{behind_name, fault_front, front, item_rows, line_text, marks_of, name_front, node_rows, number_front, output_from, path_front, refused_rows, row, row_around, row_told, rows_around, selected_rows, shown_line, status_rows, summary_of, text_around, value_row, whole, whole_marked, written_of}
+use Rattle.jp_grep.specs.Rows.{behind_name, events_around, events_from, fault_front, front, item_events, line_text, marks_of, name_front, node_events, number_front, path_front, refused_events, row, row_around, selected_events, shown_line, status_events, stream_events, summary_of, text_around, told_of_all, value_event, value_row, whole, whole_marked}
+use Rattle.jp_grep.specs.Telling.{gap_where}
 use Rattle.jp_grep.specs.Spelled.{is_line_break, spelled}
 use Rattle.jp_grep.specs.Tables.{header_text, table_row}
 use Rattle.jp_grep.specs.declared.question.Question.{Question}
@@ -132,135 +131,119 @@ shown_paints question form line t node marks = by form.marked refl
     by false e = plain_stays (line_text form.spelling form.units line t)
     by true e = subst (λ (s : Spelling). Paints (line_text s form.units line t) marked_text) (sym (marks e)) (whole_paints form.units (marks_of question t node) line t)
 
--- ---- rows one after another
+-- ---- what is told, one thing after another
 
--- as many rows, which are alike one by one
-abbrev Each : (R : List ℕ → List ℕ → Type 0) → List (List ℕ) → List (List ℕ) → Type 0
-Each R [] [] = ⊤
-Each R [] (other ∷ others) = ⊥
-Each R (row ∷ rows) [] = ⊥
-Each R (row ∷ rows) (other ∷ others) = R row other × Each R rows others
+taken : (count : ℕ) (events others : List Event) → TellInColours events others → TellInColours (take count events) (take count others)
+taken zero events others same = tt
+taken (suc count) [] [] same = tt
+taken (suc count) [] (other ∷ others) same = absurd same
+taken (suc count) (event ∷ events) [] same = absurd same
+taken (suc count) (event ∷ events) (other ∷ others) same = (same.0, taken count events others same.1)
 
--- rows that are told, the same in colours
-abbrev ToldAlike : List ℕ → List ℕ → Type 0
-ToldAlike row other = (plain coloured : ToldRow) × InColours plain coloured × (row ≡ told_text plain) × (other ≡ told_text coloured)
+mapped : {X : Type 0} (f g : X → Event) (xs : List X) → ((x : X) → EventInColours (f x) (g x)) → TellInColours (map f xs) (map g xs)
+mapped f g [] same = tt
+mapped f g (x ∷ xs) same = (same x, mapped f g xs same)
 
--- how rows and those in colours are alike
-abbrev Alike : Shown → List ℕ → List ℕ → Type 0
-Alike shown.Around = ToldAlike
-Alike _ = Paints
+flat_mapped : {X : Type 0} (f g : X → List Event) (xs : List X) → ((x : X) → TellInColours (f x) (g x)) → TellInColours (flat_map f xs) (flat_map g xs)
+flat_mapped f g [] same = tt
+flat_mapped f g (x ∷ xs) same = tell_both (f x) (g x) (flat_map f xs) (flat_map g xs) (same x) (flat_mapped f g xs same)
 
-module _ (R : List ℕ → List ℕ → Type 0) where
-  none : Each R [] []
-  none = tt
+row_alike : (selected : Bool) (text other : List ℕ) → Paints text other → EventInColours (row_event selected text) (row_event selected other)
+row_alike selected text other same = record { gap = refl; selected = refl; text = same }
 
-  appended : (rows others more less : List (List ℕ)) → Each R rows others → Each R more less → Each R (rows ++ more) (others ++ less)
-  appended [] [] more less same rest = rest
-  appended [] (other ∷ others) more less same rest = absurd same
-  appended (row ∷ rows) [] more less same rest = absurd same
-  appended (row ∷ rows) (other ∷ others) more less same rest = (same.0, appended rows others more less same.1 rest)
-
-  taken : (count : ℕ) (rows others : List (List ℕ)) → Each R rows others → Each R (take count rows) (take count others)
-  taken zero rows others same = tt
-  taken (suc count) [] [] same = tt
-  taken (suc count) [] (other ∷ others) same = absurd same
-  taken (suc count) (row ∷ rows) [] same = absurd same
-  taken (suc count) (row ∷ rows) (other ∷ others) same = (same.0, taken count rows others same.1)
-
-  mapped : {X : Type 0} (f g : X → List ℕ) (xs : List X) → ((x : X) → R (f x) (g x)) → Each R (map f xs) (map g xs)
-  mapped f g [] same = tt
-  mapped f g (x ∷ xs) same = (same x, mapped f g xs same)
-
-  flat_mapped : {X : Type 0} (f g : X → List (List ℕ)) (xs : List X) → ((x : X) → Each R (f x) (g x)) → Each R (flat_map f xs) (flat_map g xs)
-  flat_mapped f g [] same = tt
-  flat_mapped f g (x ∷ xs) same = appended (f x) (g x) (flat_map f xs) (flat_map g xs) (same x) (flat_mapped f g xs same)
-
-told_alike_row : (selected : Bool) (n : ℕ) (text other : List ℕ) → Paints text other → ToldAlike (row_told selected n text) (row_told selected n other)
-told_alike_row selected n text other same =
-    (record { selected = selected; first = n == 1; text = text }, record { selected = selected; first = n == 1; text = other }, record { selected = refl; first = refl; text = same }, refl, refl)
+gap_alike : EventInColours gap_event gap_event
+gap_alike = record { gap = refl; selected = refl; text = plain_stays [] }
 
 module _ (question : Question) (form : Form) (marks : MarksSources form) (n : ℕ) (line : List ℕ) where
   abbrev plain : Form
   plain = without_colours form
 
-  line_rows : (t : Tree) (node : Node) → Paints (row plain n (shown_line question plain line t node)) (row form n (shown_line question form line t node))
-  line_rows t node =
-      row_paints (codes ":") form n (shown_line question plain line t node) (shown_line question form line t node) (shown_paints question form line t node marks)
+  line_alike : (t : Tree) (node : Node) → EventInColours (row_event true (row plain n (shown_line question plain line t node))) (row_event true (row form n (shown_line question form line t node)))
+  line_alike t node =
+      row_alike true (row plain n (shown_line question plain line t node)) (row form n (shown_line question form line t node))
+      (row_paints (codes ":") form n (shown_line question plain line t node) (shown_line question form line t node) (shown_paints question form line t node marks))
 
-  node_alike : (s : Shown) (t : Tree) (node : Node) → Each (Alike s) (node_rows s question plain n line t node) (node_rows s question form n line t node)
+  node_alike : (s : Shown) (t : Tree) (node : Node) → TellInColours (node_events s question plain n line t node) (node_events s question form n line t node)
   node_alike shown.Nothing t node = tt
-  node_alike (shown.Line faults) t node = (line_rows t node, tt)
-  node_alike shown.Around t node =
-      (told_alike_row true n (row plain n (shown_line question plain line t node)) (row form n (shown_line question form line t node)) (line_rows t node), tt)
+  node_alike (shown.Line faults) t node = (line_alike t node, tt)
+  node_alike shown.Around t node = (line_alike t node, tt)
+  node_alike shown.Nodes t node = (record { gap = refl; selected = refl; text = plain_stays (event_text (node_event n line node)) }, tt)
   node_alike (shown.Values paths) t node =
-      mapped Paints (value_row plain paths n line) (value_row form paths n line) (nodes_of (queries_of question) node t) (λ found. value_row_paints form paths n line found)
-  node_alike (shown.Cells table) t node = (plain_stays (table_row table (queries_of question) form n line t node), tt)
+      mapped (value_event plain paths n line) (value_event form paths n line) (nodes_of (queries_of question) node t)
+      (λ found. row_alike true (value_row plain paths n line found) (value_row form paths n line found) (value_row_paints form paths n line found))
+  node_alike (shown.Cells table) t node =
+      let cells = table_row table (queries_of question) form n line t node in
+      (row_alike true cells cells (plain_stays cells), tt)
 
-  refused_alike : (s : Shown) (fault : LineFault) → Each (Alike s) (refused_rows s plain n line fault) (refused_rows s form n line fault)
+  refused_alike : (s : Shown) (fault : LineFault) → TellInColours (refused_events s plain n line fault) (refused_events s form n line fault)
   refused_alike shown.Nothing fault = tt
   refused_alike (shown.Line faults) fault =
-      let body = fault_front faults fault ++ line in (row_paints (codes ":") form n body body (plain_stays body), tt)
-  refused_alike shown.Around fault =
-      (told_alike_row true n (row plain n line) (row form n line) (row_paints (codes ":") form n line line (plain_stays line)), tt)
+      let body = fault_front faults fault ++ line in
+      (row_alike true (row plain n body) (row form n body) (row_paints (codes ":") form n body body (plain_stays body)), tt)
+  refused_alike shown.Around fault = (row_alike true (row plain n line) (row form n line) (row_paints (codes ":") form n line line (plain_stays line)), tt)
+  refused_alike shown.Nodes fault = tt
   refused_alike (shown.Values paths) fault = tt
   refused_alike (shown.Cells table) fault = tt
 
-  around_alike : (s : Shown) (selected : ℕ) (status : LineStatus) → Each (Alike s) (rows_around s plain n line selected status) (rows_around s form n line selected status)
+  around_alike : (s : Shown) (selected : ℕ) (status : LineStatus) → TellInColours (events_around s plain n line selected status) (events_around s form n line selected status)
   around_alike shown.Nothing selected status = tt
   around_alike (shown.Line faults) selected status = tt
   around_alike shown.Around zero status =
       let body = text_around form.units line status in
-      (told_alike_row false n (row_around plain n body) (row_around form n body) (row_paints (codes "-") form n body body (plain_stays body)), tt)
+      (row_alike false (row_around plain n body) (row_around form n body) (row_paints (codes "-") form n body body (plain_stays body)), tt)
   around_alike shown.Around (suc selected) status = tt
+  around_alike shown.Nodes selected status = tt
   around_alike (shown.Values paths) selected status = tt
   around_alike (shown.Cells table) selected status = tt
 
   wanted_alike : (s : Shown) (wanted : Bool) (fault : LineFault)
-      → Each (Alike s) (if wanted then refused_rows s plain n line fault else []) (if wanted then refused_rows s form n line fault else [])
+      → TellInColours (if wanted then refused_events s plain n line fault else []) (if wanted then refused_events s form n line fault else [])
   wanted_alike s true fault = refused_alike s fault
-  wanted_alike s false fault = none (Alike s)
+  wanted_alike s false fault = tt
 
-  selected_alike : (most : Option ℕ) (status : LineStatus) → Each (Alike form.shown) (selected_rows question plain n line most status) (selected_rows question form n line most status)
-  selected_alike most blank = none (Alike form.shown)
+  selected_alike : (most : Option ℕ) (status : LineStatus) → TellInColours (selected_events question plain n line most status) (selected_events question form n line most status)
+  selected_alike most blank = tt
   selected_alike most (refused fault) = wanted_alike form.shown (wants_refused question.wanted) fault
   selected_alike most (parsed t) =
-      flat_mapped (Alike form.shown) (node_rows form.shown question plain n line t) (node_rows form.shown question form n line t) (wanted_of most (selected_nodes question t))
+      flat_mapped (node_events form.shown question plain n line t) (node_events form.shown question form n line t) (wanted_of most (selected_nodes question t))
       (λ node. node_alike form.shown t node)
 
-  status_alike : (most : Option ℕ) (status : LineStatus) → Each (Alike form.shown) (status_rows question plain n line most status) (status_rows question form n line most status)
+  status_alike : (most : Option ℕ) (status : LineStatus) → TellInColours (status_events question plain n line most status) (status_events question form n line most status)
   status_alike most status =
       let count = selected_of question most (judged most status) in
-      appended (Alike form.shown) (selected_rows question plain n line most (judged most status)) (selected_rows question form n line most (judged most status))
-      (rows_around form.shown plain n line count status) (rows_around form.shown form n line count status)
+      tell_both (selected_events question plain n line most (judged most status)) (selected_events question form n line most (judged most status))
+      (events_around form.shown plain n line count status) (events_around form.shown form n line count status)
       (selected_alike most (judged most status)) (around_alike form.shown count status)
 
 -- ---- the output
 
-concat_paints : (rows others : List (List ℕ)) → Each Paints rows others → Paints (concat rows) (concat others)
-concat_paints [] [] same = plain_stays []
-concat_paints [] (other ∷ others) same = absurd same
-concat_paints (row ∷ rows) [] same = absurd same
-concat_paints (row ∷ rows) (other ∷ others) same = joined_paints row other (concat rows) (concat others) same.0 (concat_paints rows others same.1)
+told_alike_of : (given_up : Option ℕ) (events others : List Event) → TellInColours events others → TellInColours (told_of_all given_up events) (told_of_all given_up others)
+told_alike_of None events others same = same
+told_alike_of (Some count) events others same = taken count events others same
 
-written_each : (R : List ℕ → List ℕ → Type 0) (given_up : Option ℕ) (P : List ℕ → List ℕ → Type 0) → ((rows others : List (List ℕ)) → Each R rows others → P (concat rows) (concat others))
-    → (rows others : List (List ℕ)) → Each R rows others → P (written_of given_up rows) (written_of given_up others)
-written_each R None P joins rows others same = joins rows others same
-written_each R (Some count) P joins rows others same = joins (take count rows) (take count others) (taken R count rows others same)
+gap_where_alike : (given_up : Bool) → TellInColours (gap_where given_up) (gap_where given_up)
+gap_where_alike false = tt
+gap_where_alike true = (gap_alike, tt)
 
-each_paints : (s : Shown) → ¬ (s ≡ shown.Around) → (rows others : List (List ℕ)) → Each (Alike s) rows others → Paints (concat rows) (concat others)
-each_paints shown.Nothing other rows others same = concat_paints rows others same
-each_paints (shown.Line faults) other rows others same = concat_paints rows others same
-each_paints shown.Around other rows others same = absurd (other refl)
-each_paints (shown.Values paths) other rows others same = concat_paints rows others same
-each_paints (shown.Cells table) other rows others same = concat_paints rows others same
+events_alike : (question : Question) (form : Form) → MarksSources form → (n : ℕ) (items : List Item) → TellInColours (events_from question (without_colours form) n items) (events_from question form n items)
+events_alike question form marks n [] = tt
+events_alike question form marks n (item ∷ items) =
+    tell_both (item_events question (without_colours form) n item) (item_events question form n item) (events_from question (without_colours form) (n + 1) items) (events_from question form (n + 1) items)
+    (tell_both (told_of_all item.given_up (status_events question (without_colours form) n item.text item.most item.status)) (told_of_all item.given_up (status_events question form n item.text item.most item.status))
+    (gap_where (is_given_up item)) (gap_where (is_given_up item))
+    (told_alike_of item.given_up (status_events question (without_colours form) n item.text item.most item.status) (status_events question form n item.text item.most item.status)
+    (status_alike question form marks n item.text item.most item.status))
+    (gap_where_alike (is_given_up item)))
+    (events_alike question form marks (n + 1) items)
+
+text_paints : (events others : List Event) → TellInColours events others → Paints (text_of events) (text_of others)
+text_paints [] [] same = plain_stays []
+text_paints [] (other ∷ others) same = absurd same
+text_paints (event ∷ events) [] same = absurd same
+text_paints (event ∷ events) (other ∷ others) same = joined_paints (event_text event) (event_text other) (text_of events) (text_of others) same.0.text (text_paints events others same.1)
 
 pub output_paints : ColoursComeOffRows
-output_paints question form marks other n [] = plain_stays []
-output_paints question form marks other n (item ∷ items) =
-    joined_paints (item_rows question (without_colours form) n item) (item_rows question form n item) (output_from question (without_colours form) (n + 1) items) (output_from question form (n + 1) items)
-    (written_each (Alike form.shown) item.given_up Paints (each_paints form.shown other) (status_rows question (without_colours form) n item.text item.most item.status) (status_rows question form n item.text item.most item.status)
-    (status_alike question form marks n item.text item.most item.status))
-    (output_paints question form marks other (n + 1) items)
+output_paints question form marks n items = text_paints (events_from question (without_colours form) n items) (events_from question form n items) (events_alike question form marks n items)
 
 pub summary_paints : ColoursComeOffSummaries
 summary_paints form count all = by form.summary
@@ -296,57 +279,19 @@ headers_same form names = by form.shown
     by shown.Nothing = refl
     by (shown.Line faults) = refl
     by shown.Around = refl
+    by shown.Nodes = refl
     by (shown.Values paths) = refl
     by (shown.Cells table) = refl
 
--- ---- what is told
+-- ---- streams
 
-told_joined : (rows others : List (List ℕ)) → Each ToldAlike rows others → TellInColours (concat rows) (concat others)
-told_joined [] [] same = ([], [], tt, refl, refl)
-told_joined [] (other ∷ others) same = absurd same
-told_joined (row ∷ rows) [] same = absurd same
-told_joined (row ∷ rows) (other ∷ others) ((plain, coloured, alike, is, other_is), same) =
-    let rest = told_joined rows others same in (
-      plain ∷ rest.0,
-      coloured ∷ rest.1,
-      (alike, rest.2),
-      ap (λ (l : List ℕ). l ++ concat rows) is ∙ ap (λ (l : List ℕ). told_text plain ++ l) rest.3,
-      ap (λ (l : List ℕ). l ++ concat others) other_is ∙ ap (λ (l : List ℕ). told_text coloured ++ l) rest.4,
-    )
-
-all_appended : (rows others more less : List ToldRow) → AllInColours rows others → AllInColours more less → AllInColours (rows ++ more) (others ++ less)
-all_appended [] [] more less same rest = rest
-all_appended [] (other ∷ others) more less same rest = absurd same
-all_appended (row ∷ rows) [] more less same rest = absurd same
-all_appended (row ∷ rows) (other ∷ others) more less same rest = (same.0, all_appended rows others more less same.1 rest)
-
-told_appended : (first second more less : List ℕ) → TellInColours first second → TellInColours more less → TellInColours (first ++ more) (second ++ less)
-told_appended first second more less (rows, others, same, is, other_is) (next, after, alike, next_is, after_is) = (
-  rows ++ next,
-  others ++ after,
-  all_appended rows others next after same alike,
-  ap (λ (l : List ℕ). l ++ more) is ∙ (ap (λ (l : List ℕ). flat_map told_text rows ++ l) next_is ∙ sym (flat_map-append told_text rows next)),
-  ap (λ (l : List ℕ). l ++ less) other_is ∙ (ap (λ (l : List ℕ). flat_map told_text others ++ l) after_is ∙ sym (flat_map-append told_text others after)),
-)
-
-output_told : (question : Question) (form : Form) → MarksSources form → form.shown ≡ shown.Around → (n : ℕ) (items : List Item)
-    → TellInColours (output_from question (without_colours form) n items) (output_from question form n items)
-output_told question form marks around n [] = ([], [], tt, refl, refl)
-output_told question form marks around n (item ∷ items) =
-    told_appended (item_rows question (without_colours form) n item) (item_rows question form n item) (output_from question (without_colours form) (n + 1) items) (output_from question form (n + 1) items)
-    (written_each (Alike form.shown) item.given_up TellInColours (λ rows others same. told_joined rows others (subst (λ (s : Shown). Each (Alike s) rows others) around same))
-    (status_rows question (without_colours form) n item.text item.most item.status) (status_rows question form n item.text item.most item.status)
-    (status_alike question form marks n item.text item.most item.status))
-    (output_told question form marks around (n + 1) items)
-
-streams_told : (question : Question) (streams : List Searched) → All IsTold streams → TellInColours (rows_of question (map searched_without streams)) (rows_of question streams)
-streams_told question [] told = ([], [], tt, refl, refl)
-streams_told question (one ∷ streams) told =
-    let first = All-head IsTold one streams told in
-    told_appended (output_from question (without_colours one.form) 1 one.items) (output_from question one.form 1 one.items) (rows_of question (map searched_without streams)) (rows_of question streams)
-    (output_told question one.form first.marks first.around 1 one.items)
-    (streams_told question streams (All-tail IsTold one streams told))
+streams_alike : (question : Question) (streams : List Searched) → All IsMarked streams → TellInColours (events_of question (map searched_without streams)) (events_of question streams)
+streams_alike question [] told = tt
+streams_alike question (one ∷ streams) told =
+    tell_both (stream_events question (without_colours one.form) one.items) (stream_events question one.form one.items) (events_of question (map searched_without streams)) (events_of question streams)
+    (gap_alike, events_alike question one.form (All-head IsMarked one streams told) 1 one.items)
+    (streams_alike question streams (All-tail IsMarked one streams told))
 
 pub context_paints : ColoursComeOffContext
-context_paints question streams told short coloured_short is_coloured before after =
-    told_alike is_coloured before after (rows_of question (map searched_without streams)) (rows_of question streams) (streams_told question streams told) short coloured_short
+context_paints question streams told is_coloured before after =
+    told_alike is_coloured before after (events_of question (map searched_without streams)) (events_of question streams) (streams_alike question streams told)

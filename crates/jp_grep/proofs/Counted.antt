@@ -3,7 +3,7 @@ use Rattle.std.proofs.Common.{◌≡◌, ◌∙◌, ◌<◌, ◌≤◌, ℕ, ◌
 use Rattle.std.specs.Prelude.{zero, suc, count_by, cond, ◌⊎◌}
 use Rattle.std.proofs.lemmas.List.Sums.{sum_by-cons}
 use Rattle.jp_grep.specs.Items.{Item, is_unjudged, unjudged_count}
-use Rattle.jp_grep.specs.Rows.{item_message, item_rows, messages_from, output_from, refused_count, refused_item, selected_count, selected_in}
+use Rattle.jp_grep.specs.Rows.{events_from, item_events, item_message, messages_from, refused_count, refused_item, selected_count, selected_in}
 use Rattle.jp_grep.specs.Watching.{cut_to, up_to}
 use Rattle.jp_form.specs.declared.form.Form.{Form}
 use Rattle.jp_grep.specs.declared.question.Question.{Question}
@@ -77,11 +77,11 @@ module _ (question : Question) where
       as_many trailing rest all e = omega (arith, e)
 
 module _ (question : Question) (form : Form) where
-  pub output-append : (n : ℕ) (xs ys : List Item) → output_from question form n (xs ++ ys) ≡ output_from question form n xs ++ output_from question form (n + length xs) ys
-  output-append n [] ys = ap (λ k. output_from question form k ys) (omega arith)
-  output-append n (x ∷ xs) ys =
-      ap (λ l. item_rows question form n x ++ l) (output-append (n + 1) xs ys ∙ ap (λ k. output_from question form (n + 1) xs ++ output_from question form k ys) (omega arith))
-      ∙ sym (append_assoc (item_rows question form n x) (output_from question form (n + 1) xs) (output_from question form (n + length (x ∷ xs)) ys))
+  pub events-append : (n : ℕ) (xs ys : List Item) → events_from question form n (xs ++ ys) ≡ events_from question form n xs ++ events_from question form (n + length xs) ys
+  events-append n [] ys = ap (λ k. events_from question form k ys) (omega arith)
+  events-append n (x ∷ xs) ys =
+      ap (λ l. item_events question form n x ++ l) (events-append (n + 1) xs ys ∙ ap (λ k. events_from question form (n + 1) xs ++ events_from question form k ys) (omega arith))
+      ∙ sym (append_assoc (item_events question form n x) (events_from question form (n + 1) xs) (events_from question form (n + length (x ∷ xs)) ys))
 
   counted_so : (before one rest all : ℕ) → all ≡ one + rest → (before + one) + rest ≡ before + all
   counted_so before one rest all e = omega (arith, e)
@@ -98,8 +98,8 @@ module _ (question : Question) (form : Form) where
       (messages_from form (before + refused_count (x ∷ xs)) (n + length (x ∷ xs)) ys))
 
   -- one more line
-  pub output_one : (n : ℕ) (line : Item) → output_from question form n (line ∷ []) ≡ item_rows question form n line
-  output_one n line = append-nil (item_rows question form n line)
+  pub events_one : (n : ℕ) (line : Item) → events_from question form n (line ∷ []) ≡ item_events question form n line
+  events_one n line = append-nil (item_events question form n line)
 
   pub messages_one : (before n : ℕ) (line : Item) → messages_from form before n (line ∷ []) ≡ item_message form before n line
   messages_one before n line = append-nil (item_message form before n line)

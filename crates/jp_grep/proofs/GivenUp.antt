@@ -9,7 +9,7 @@ use Rattle.jp_form.specs.declared.form.Shown.{Shown}
 use Rattle.jp_form.specs.declared.form.Shown.TheVariants as shown
 use Rattle.jp_grep.specs.Matching.{all_hold, conditions_of, is_selected, nodes_of, queries_of, selects, wants_found, wants_nodes, wants_nodes_where, wants_value}
 use Rattle.jp_grep.specs.Outcomes.{CameOf}
-use Rattle.jp_grep.specs.Rows.{asked_rows, node_rows, value_row}
+use Rattle.jp_grep.specs.Rows.{asked_events, node_events, value_event}
 use Rattle.jp_grep.specs.declared.question.Question.{Question}
 use Rattle.jp_grep.specs.declared.question.Wanted.{Wanted}
 use Rattle.jp_grep.specs.declared.question.Wanted.TheVariants as wanted
@@ -33,13 +33,13 @@ found_as wanted.Matching false some asked = absurd (cc)
 found_as wanted.Others holds some asked = sym asked
 found_as wanted.Refused holds some asked = absurd (cc)
 
--- where the values are asked for, their rows are those of the node
+-- where the values are asked for, their rows are what is told of the node
 pub all_values : (q : Question) (f : Form) (paths : Bool) (n : ℕ) (line : List ℕ) (t : Tree) (node : Node) → f.shown ≡ shown.Values paths → wants_nodes q node t ≡ true
-    → asked_rows q f n line t node ≡ map (value_row f paths n line) (nodes_of (queries_of q) node t)
+    → asked_events q f n line t node ≡ map (value_event f paths n line) (nodes_of (queries_of q) node t)
 all_values q f paths n line t node is asked =
-    ap (λ (s : Shown). if is_selected q t node then node_rows s q f n line t node else []) is
-    ∙ wanted_rows q.wanted q.purpose (all_hold (conditions_of q) node t) (selects (queries_of q) node t) (map (value_row f paths n line) (nodes_of (queries_of q) node t))
-    (λ e. ap (map (value_row f paths n line)) (none_selected (queries_of q) node t e)) asked
+    ap (λ (s : Shown). if is_selected q t node then node_events s q f n line t node else []) is
+    ∙ wanted_rows q.wanted q.purpose (all_hold (conditions_of q) node t) (selects (queries_of q) node t) (map (value_event f paths n line) (nodes_of (queries_of q) node t))
+    (λ e. ap (map (value_event f paths n line)) (none_selected (queries_of q) node t e)) asked
 
 -- where they are not, it is not selected
 pub unasked : (w : Wanted) (holds some : Bool) → wants_nodes_where w holds (holds && some) ≡ false → wants_value w (holds && some) ≡ false

@@ -14,6 +14,7 @@ pub mod Counted
 pub mod Coming
 pub mod Written
 pub mod Putting
+pub mod Parts
 pub mod RowLists
 pub mod Asking
 pub mod Selecting

@@ -72,8 +72,8 @@ none_selected (query ∷ rest) node t e =
     ∙ ap (λ ns. ns ++ nodes_of rest node t) (none_there (path_nodes query node t) (first_false some (selects rest node t) e))
     ∙ none_selected rest node t (second_false some (selects rest node t) e)
 
--- where nodes are asked for, no row is left out, whether some is selected or none
-pub wanted_rows : (w : Wanted) (q : Queries) (holds some : Bool) (rows : List (List ℕ)) → (some ≡ false → rows ≡ []) → wants_nodes_where w holds (holds && let_match q some) ≡ true
+-- where nodes are asked for, nothing is left out, whether some is selected or none
+pub wanted_rows : {A : Type 0} (w : Wanted) (q : Queries) (holds some : Bool) (rows : List A) → (some ≡ false → rows ≡ []) → wants_nodes_where w holds (holds && let_match q some) ≡ true
     → (if wants_value w (holds && let_match q some) then rows else []) ≡ rows
 wanted_rows wanted.Matching purposes.Columns true some rows none asked = refl
 wanted_rows wanted.Matching purposes.Filter true true rows none asked = refl

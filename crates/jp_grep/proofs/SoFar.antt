@@ -1,9 +1,11 @@
 -- What is answered of a stream so far, and what a step makes of it.
-use Rattle.std.proofs.Common.{◌≡◌, ◌∙◌, ◌+◌, ◌-◌, ◌<◌, ◌≤◌, ◌^◌, ℕ, List, [], ◌++◌, length, refl, sym, ap, ap₂, subst, append-nil, length-append, arith, Bool, true, false, ◌||◌, ◌&&◌, eqb, ltb, Option, None, Some, Result, Ok, Err, inl, inr}
+use Rattle.std.proofs.Common.{◌≡◌, ◌∙◌, ◌+◌, ◌-◌, ◌<◌, ◌≤◌, ◌^◌, ℕ, List, [], ◌∷◌, ◌++◌, length, refl, sym, ap, ap₂, subst, append-nil, length-append, arith, Bool, true, false, ◌||◌, ◌&&◌, eqb, ltb, Option, None, Some, Result, Ok, Err, inl, inr}
 use Rattle.std.specs.Prelude.{IsErrAnd, is_none, MatchOption, MatchResult, cond, sum_by, not, ◌⊎◌}
 use Rattle.std.proofs.lemmas.List.Sums.{sum_by-append}
 use Rattle.std.proofs.lemmas.Bool.{eq-eqb, eqb-true, false≢true, lt-ltb, ne_eqb}
 use Rattle.jp_devices.specs.Devices.{Came, Device, HasEnded, Received, has_no_room, one_more_where}
+use Rattle.jp_sink.specs.Events.{Event, gap_event}
+use Rattle.jp_sink.specs.Telling.{Takes}
 use Rattle.jp_devices.proofs.Devices.{CameToEnd, came_so, was_ended}
 use Rattle.jp_devices.proofs.Chains.{Part, both_received, part_behind, part_more}
 use Rattle.jp_grep.specs.Faults.{is_front_fault, is_inner_fault, is_read_fault, is_report_fault, is_writer_fault}
@@ -13,12 +15,13 @@ use Rattle.jp_grep.specs.Fronts.{IsOfLines, IsRefused}
 use Rattle.jp_grep.specs.Inputs.{WantsMore}
 use Rattle.jp_grep.specs.Items.{Item, framing_by, is_given_up, is_unjudged, items_come, unjudged_count}
 use Rattle.jp_grep.specs.Outcomes.{CameOfEach, CameOfStream, given_up_count}
-use Rattle.jp_grep.specs.Rows.{messages_from, output_from, refused_count, refused_item, selected_count, selected_in, summary_of}
+use Rattle.jp_grep.specs.Rows.{events_from, messages_from, refused_count, refused_item, selected_count, selected_in, stream_events, summary_of}
 use Rattle.jp_grep.specs.Searching.{Answers, GoesOnBy, HasAnswered, answered_after}
 use Rattle.jp_grep.specs.Sizes.{IsOversize, held_in}
 use Rattle.jp_grep.specs.Stands.{Stands}
+use Rattle.jp_grep.specs.Telling.{TakesPart}
 use Rattle.jp_grep.specs.Told.{more_refused}
-use Rattle.jp_grep.specs.Watching.{Answered, AnsweredInPart, AnsweredToEnd, AreCounts, EndsWith, IsEnough, IsShort, SearchStopped, SearchedLines, answered_of, is_whole, up_to}
+use Rattle.jp_grep.specs.Watching.{Answered, AnsweredInPart, AnsweredToEnd, AreCounts, EndsWith, IsEnough, IsShort, SearchStopped, SearchedLines, TakesSome, answered_of, is_whole, up_to}
 use Rattle.jp_grep.specs.declared.fault.SearchFault.{SearchFault}
 use Rattle.jp_grep.specs.declared.fault.SearchFault.TheVariants as faults
 use Rattle.jp_grep.specs.declared.found.Found.{Found}
@@ -31,7 +34,9 @@ use Rattle.jp_grep.specs.declared.progress.Progress.{Progress}
 use Rattle.jp_grep.specs.declared.question.Question.{Question}
 use Rattle.jp_grep.specs.declared.source.Source.{Source}
 use Rattle.jp_grep.proofs.Coming.{came_length, came_next, none_came}
-use Rattle.jp_grep.proofs.Counted.{few_up_to, messages-append, none_up_to, output-append, up_to-append}
+use Rattle.jp_grep.proofs.Counted.{few_up_to, events-append, messages-append, none_up_to, up_to-append}
+use Rattle.jp_grep.proofs.Parts.{in_one}
+use Rattle.jp_grep.proofs.Putting.{both_put, part_put, part_put_more, put_so_far}
 use Rattle.jp_grep.proofs.Standing.{come_now, goes_as}
 use Rattle.jp_grep.proofs.Written.{none_received, part_so_far}
 
@@ -135,12 +140,12 @@ module _ (question : Question) (form : Form) where
     sum : answered_of question form 0 (before ++ more) ≡ answered_of question form 0 before ++ answered_after question form progress more
     sum = taken_more before more progress counts_are.selected trailed_is
 
-    pub rows_sum : output_from question form 1 (answered_of question form 0 (before ++ more))
-        ≡ output_from question form 1 (answered_of question form 0 before) ++ output_from question form progress.number (answered_after question form progress more)
-    rows_sum =
-        ap (output_from question form 1) sum
-        ∙ output-append question form 1 (answered_of question form 0 before) (answered_after question form progress more)
-        ∙ ap (λ k. output_from question form 1 (answered_of question form 0 before) ++ output_from question form k (answered_after question form progress more)) (sym number_is)
+    pub rows_sum : stream_events question form (answered_of question form 0 (before ++ more))
+        ≡ stream_events question form (answered_of question form 0 before) ++ events_from question form progress.number (answered_after question form progress more)
+    rows_sum = ap (λ l. gap_event ∷ l)
+        (ap (events_from question form 1) sum
+        ∙ events-append question form 1 (answered_of question form 0 before) (answered_after question form progress more)
+        ∙ ap (λ k. events_from question form 1 (answered_of question form 0 before) ++ events_from question form k (answered_after question form progress more)) (sym number_is))
 
     pub messages_sum : messages_from form 0 1 (answered_of question form 0 (before ++ more))
         ≡ messages_from form 0 1 (answered_of question form 0 before) ++ messages_from form progress.counts.refused progress.number (answered_after question form progress more)
@@ -172,17 +177,24 @@ module _ (question : Question) (form : Form) where
     pub trailed_sum : (after : Progress) → GoesOnBy question form progress after (answered_after question form progress more) → after.trailed ≡ unjudged_count (answered_of question form 0 (before ++ more))
     trailed_sum after by = count_sum (λ item. cond (is_unjudged item.most) 1 0) progress.trailed after.trailed trailed_is by.trailed
 
-  module _ {W E : Type 0} (rows_in : W → Option (List ℕ)) (messages_in : E → Option (List ℕ)) where
-    abbrev pub SoFar : Source → Progress → Device W → Device W → Device E → Device E → List ℕ → List Item → List Item → Type 0
-    SoFar source progress out0 out1 told0 told1 came lines outcomes = HasAnswered rows_in messages_in question form source progress out0 out1 told0 told1 came lines outcomes
+  module _ {S E : Type 0} (stands stopped : S → List Event → Type 0) (messages_in : E → Option (List ℕ)) where
+    abbrev pub SoFar : Source → Progress → S → S → Device E → Device E → List ℕ → List Item → List Item → Type 0
+    SoFar source progress sink0 sink1 told0 told1 came lines outcomes = HasAnswered stands stopped messages_in question form source progress sink0 sink1 told0 told1 came lines outcomes
+
+    -- a part of what is told of items is one of it and of what stands after it
+    pub to_end : (sink0 sink1 : S) (items : List Item) → TakesPart stands stopped sink0 sink1 (stream_events question form items) → TakesSome stands stopped messages_in question form sink0 sink1 items
+    to_end sink0 sink1 items part =
+        let text = summary_of form.summary form (selected_count question items) true in
+        let parts = in_one text in
+        (true, parts.0, parts.1, part_put_more stands stopped sink0 sink1 (stream_events question form items) parts.0 part)
 
     -- at the front
-    pub at_start : (source : Source) (progress : Progress) (out : Device W) (told : Device E) → Stands form.units [] source []
-        → progress.number ≡ 1 → progress.counts.selected ≡ 0 → progress.counts.refused ≡ 0 → progress.counts.given_up ≡ 0 → progress.trailed ≡ 0 → SoFar source progress out out told told [] [] []
-    at_start source progress out told stands number selected refused given_up trailed = record {
-      position = stands;
+    pub at_start : (source : Source) (progress : Progress) (sink0 sink1 : S) (told : Device E) → Stands form.units [] source [] → Takes stands sink0 sink1 (gap_event ∷ [])
+        → progress.number ≡ 1 → progress.counts.selected ≡ 0 → progress.counts.refused ≡ 0 → progress.counts.given_up ≡ 0 → progress.trailed ≡ 0 → SoFar source progress sink0 sink1 told told [] [] []
+    at_start source progress sink0 sink1 told position begun number selected refused given_up trailed = record {
+      position = position;
       each = tt;
-      rows = subst (λ ls. Received rows_in out out (output_from question form 1 ls)) (sym (none_taken 0)) (none_received out);
+      rows = subst (λ ls. Takes stands sink0 sink1 (stream_events question form ls)) (sym (none_taken 0)) begun;
       messages = subst (λ ls. Received messages_in told told (messages_from form 0 1 ls)) (sym (none_taken 0)) (none_received told);
       number = number ∙ ap (λ (ls : List Item). 1 + length ls) (sym (none_taken 0));
       counts = record {
@@ -199,13 +211,13 @@ module _ (question : Question) (form : Form) where
       };
     }
 
-    -- both writers are flushed
-    pub flushed : (source : Source) (progress : Progress) (out0 out1 out2 : Device W) (told0 told1 told2 : Device E) (came : List ℕ) (lines outcomes : List Item) → SoFar source progress out0 out1 told0 told1 came lines outcomes
-        → Received rows_in out1 out2 [] → Received messages_in told1 told2 [] → SoFar source progress out0 out2 told0 told2 came lines outcomes
-    flushed source progress out0 out1 out2 told0 told1 told2 came lines outcomes so rows messages = record {
+    -- both are flushed
+    pub flushed : (source : Source) (progress : Progress) (sink0 sink1 sink2 : S) (told0 told1 told2 : Device E) (came : List ℕ) (lines outcomes : List Item) → SoFar source progress sink0 sink1 told0 told1 came lines outcomes
+        → Takes stands sink1 sink2 [] → Received messages_in told1 told2 [] → SoFar source progress sink0 sink2 told0 told2 came lines outcomes
+    flushed source progress sink0 sink1 sink2 told0 told1 told2 came lines outcomes so rows messages = record {
       position = so.position;
       each = so.each;
-      rows = subst (λ t. Received rows_in out0 out2 t) (append-nil (output_from question form 1 (answered_of question form 0 outcomes))) (both_received out0 out1 out2 _ [] so.rows rows);
+      rows = subst (λ t. Takes stands sink0 sink2 t) (append-nil (stream_events question form (answered_of question form 0 outcomes))) (both_put stands stopped sink0 sink1 sink2 _ [] so.rows rows);
       messages = subst (λ t. Received messages_in told0 told2 t) (append-nil (messages_from form 0 1 (answered_of question form 0 outcomes))) (both_received told0 told1 told2 _ [] so.messages messages);
       number = so.number;
       counts = so.counts;
@@ -213,7 +225,7 @@ module _ (question : Question) (form : Form) where
       under_way = so.under_way;
     }
 
-    module _ (source : Source) (progress : Progress) (out0 out1 : Device W) (told0 told1 : Device E) (came : List ℕ) (lines outcomes : List Item) (so : SoFar source progress out0 out1 told0 told1 came lines outcomes) where
+    module _ (source : Source) (progress : Progress) (sink0 sink1 : S) (told0 told1 : Device E) (came : List ℕ) (lines outcomes : List Item) (so : SoFar source progress sink0 sink1 told0 told1 came lines outcomes) where
       -- the lines that came are those that are answered
       pub come : items_come form.units false came ≡ lines
       come = come_now form.units came source lines so.position
@@ -224,12 +236,12 @@ module _ (question : Question) (form : Form) where
       pub came_so_far : (failed : Bool) → CameOfStream form (came_so came false failed) outcomes
       came_so_far failed = record { items = lines; others = []; split = come ∙ sym (append-nil lines); each = so.each }
 
-      pub all_so_far : Answered rows_in messages_in question form out0 out1 told0 told1 (answered_of question form 0 outcomes)
+      pub all_so_far : Answered stands stopped messages_in question form sink0 sink1 told0 told1 (answered_of question form 0 outcomes)
       all_so_far = record { rows = so.rows; messages = so.messages }
 
       -- as many as are wanted were selected
       pub enough_selected : (failed : Bool) (found : Found) → IsEnough form progress.counts.selected progress.trailed → found.counts ≡ progress.counts → found.unread ≡ None
-          → SearchedLines rows_in messages_in question form out0 out1 told0 told1 (came_so came false failed) outcomes found
+          → SearchedLines stands stopped messages_in question form sink0 sink1 told0 told1 (came_so came false failed) outcomes found
       enough_selected failed found enough counts unread = record {
         framed = λ ended. absurd (false≢true ended);
         all = all_so_far;
@@ -239,7 +251,7 @@ module _ (question : Question) (form : Form) where
 
       -- the rest is passed over
       pub passed_over : (now : Came) (found : Found) (limit : Limit) → (now.ended ≡ true → IsOfLines (framing_by form.units) now.bytes) → (limit ≡ limits.Size → IsOversize form.units now outcomes) → found.counts ≡ progress.counts → found.unread ≡ Some (record { limit = limit; line = progress.number })
-          → SearchedLines rows_in messages_in question form out0 out1 told0 told1 now outcomes found
+          → SearchedLines stands stopped messages_in question form sink0 sink1 told0 told1 now outcomes found
       passed_over now found limit framed oversize counts unread = record {
         framed = framed;
         all = all_so_far;
@@ -268,43 +280,41 @@ module _ (question : Question) (form : Form) where
         fewer = subst (λ (n : ℕ). IsShort form n (unjudged_count (answered_of question form 0 outcomes))) so.counts.selected (subst (λ (n : ℕ). IsShort form progress.counts.selected n) so.trailed short);
       }
 
-      -- a beginning of the answer of these lines, and of others after them
-      pub in_part : (out2 : Device W) (told2 : Device E) (more : List Item)
-          → Part rows_in out1 out2 (output_from question form progress.number (answered_after question form progress more))
+      -- a part of the answer of these lines, and of others after them
+      pub in_part : (sink2 : S) (told2 : Device E) (more : List Item)
+          → TakesPart stands stopped sink1 sink2 (events_from question form progress.number (answered_after question form progress more))
           → Part messages_in told1 told2 (messages_from form progress.counts.refused progress.number (answered_after question form progress more))
-          → AnsweredInPart rows_in messages_in question form out0 out2 told0 told2 (answered_of question form 0 (outcomes ++ more))
-      in_part out2 told2 more rows messages =
+          → AnsweredInPart stands stopped messages_in question form sink0 sink2 told0 told2 (answered_of question form 0 (outcomes ++ more))
+      in_part sink2 told2 more rows messages =
           let all = answered_of question form 0 (outcomes ++ more) in
           record {
-            all = true;
-            rows = part_more out0 out2 (output_from question form 1 all) (summary_of form.summary form (selected_count question all) true)
-                (subst (λ t. Part rows_in out0 out2 t) (sym (rows_sum outcomes more progress so.number so.counts so.trailed)) (part_behind out0 out1 out2 _ _ so.rows rows));
+            rows = to_end sink0 sink2 all (subst (λ t. TakesPart stands stopped sink0 sink2 t) (sym (rows_sum outcomes more progress so.number so.counts so.trailed)) (part_put stands stopped sink0 sink1 sink2 _ _ so.rows rows));
             messages = part_more told0 told2 (messages_from form 0 1 all) (more_refused form (refused_count all))
                 (subst (λ t. Part messages_in told0 told2 t) (sym (messages_sum outcomes more progress so.number so.counts so.trailed)) (part_behind told0 told1 told2 _ _ so.messages messages));
           }
 
-      -- nothing more was written
-      pub stopped_here : AnsweredInPart rows_in messages_in question form out0 out1 told0 told1 (answered_of question form 0 outcomes)
-      stopped_here =
+      -- they were not handed on
+      pub flush_failed : (sink2 : S) (told2 : Device E) → TakesPart stands stopped sink1 sink2 [] → Received messages_in told1 told2 [] → AnsweredInPart stands stopped messages_in question form sink0 sink2 told0 told2 (answered_of question form 0 outcomes)
+      flush_failed sink2 told2 rows messages =
           let all = answered_of question form 0 outcomes in
           record {
-            all = true;
-            rows = part_more out0 out1 (output_from question form 1 all) (summary_of form.summary form (selected_count question all) true) (part_so_far out0 out1 _ so.rows);
-            messages = part_more told0 told1 (messages_from form 0 1 all) (more_refused form (refused_count all)) (part_so_far told0 told1 _ so.messages);
+            rows = to_end sink0 sink2 all (subst (λ t. TakesPart stands stopped sink0 sink2 t) (append-nil (stream_events question form all)) (part_put stands stopped sink0 sink1 sink2 _ [] so.rows rows));
+            messages = part_more told0 told2 (messages_from form 0 1 all) (more_refused form (refused_count all))
+                (part_so_far told0 told2 _ (subst (λ t. Received messages_in told0 told2 t) (append-nil (messages_from form 0 1 all)) (both_received told0 told1 told2 _ [] so.messages messages)));
           }
 
-      -- nothing at all was written
-      pub none_so_far : (out2 : Device W) (told2 : Device E) → lines ≡ [] → out2 ≡ out1 → told2 ≡ told1 → Answered rows_in messages_in question form out0 out2 told0 told2 []
-      none_so_far out2 told2 none out told =
+      -- nothing at all was told
+      pub none_so_far : (sink2 : S) (told2 : Device E) → lines ≡ [] → sink2 ≡ sink1 → told2 ≡ told1 → Answered stands stopped messages_in question form sink0 sink2 told0 told2 []
+      none_so_far sink2 told2 none same told =
           let is = ap (answered_of question form 0) (none_came outcomes (subst (λ ls. CameOfEach ls outcomes) none so.each)) ∙ none_taken 0 in
           record {
-            rows = subst (λ (o : Device W). Received rows_in out0 o []) (sym out) (subst (λ ls. Received rows_in out0 out1 (output_from question form 1 ls)) is so.rows);
+            rows = subst (λ (o : S). Takes stands sink0 o (stream_events question form [])) (sym same) (subst (λ ls. Takes stands sink0 sink1 (stream_events question form ls)) is so.rows);
             messages = subst (λ (o : Device E). Received messages_in told0 o []) (sym told) (subst (λ ls. Received messages_in told0 told1 (messages_from form 0 1 ls)) is so.messages);
           }
 
-      module _ (after : Progress) (out2 : Device W) (told2 : Device E) (x : Unit {0}) (more : List Item) (answers : Answers rows_in messages_in question form progress after out1 out2 told1 told2 (Ok x) more) where
-        both_rows : Received rows_in out0 out2 (output_from question form 1 (answered_of question form 0 (outcomes ++ answers.outcomes)))
-        both_rows = subst (λ t. Received rows_in out0 out2 t) (sym (rows_sum outcomes answers.outcomes progress so.number so.counts so.trailed)) (both_received out0 out1 out2 _ _ so.rows answers.rows)
+      module _ (after : Progress) (sink2 : S) (told2 : Device E) (x : Unit {0}) (more : List Item) (answers : Answers stands stopped messages_in question form progress after sink1 sink2 told1 told2 (Ok x) more) where
+        both_rows : Takes stands sink0 sink2 (stream_events question form (answered_of question form 0 (outcomes ++ answers.outcomes)))
+        both_rows = subst (λ t. Takes stands sink0 sink2 t) (sym (rows_sum outcomes answers.outcomes progress so.number so.counts so.trailed)) (both_put stands stopped sink0 sink1 sink2 _ _ so.rows answers.rows)
 
         both_messages : Received messages_in told0 told2 (messages_from form 0 1 (answered_of question form 0 (outcomes ++ answers.outcomes)))
         both_messages = subst (λ t. Received messages_in told0 told2 t) (sym (messages_sum outcomes answers.outcomes progress so.number so.counts so.trailed)) (both_received told0 told1 told2 _ _ so.messages answers.messages)
@@ -314,7 +324,7 @@ module _ (question : Question) (form : Form) where
 
         -- these were answered, too
         pub goes_on_by : (source1 : Source) (piece : List ℕ) → Stands form.units (came ++ piece) source1 (lines ++ more)
-            → SoFar source1 after out0 out2 told0 told2 (came ++ piece) (lines ++ more) (outcomes ++ answers.outcomes)
+            → SoFar source1 after sink0 sink2 told0 told2 (came ++ piece) (lines ++ more) (outcomes ++ answers.outcomes)
         goes_on_by source1 piece position = record {
           position = position;
           each = both_each;
@@ -328,7 +338,7 @@ module _ (question : Question) (form : Form) where
 
         -- the stream ended, and what its end leaves is answered
         pub searched_all : (failed : Bool) (found : Found) → items_come form.units true came ≡ lines ++ more → IsOfLines (framing_by form.units) came → found.counts ≡ after.counts → found.unread ≡ None
-            → SearchedLines rows_in messages_in question form out0 out2 told0 told2 (came_so came true failed) (outcomes ++ answers.outcomes) found
+            → SearchedLines stands stopped messages_in question form sink0 sink2 told0 told2 (came_so came true failed) (outcomes ++ answers.outcomes) found
         searched_all failed found all framed counts unread = record {
           framed = λ ended. framed;
           all = record { rows = both_rows; messages = both_messages };
@@ -337,47 +347,46 @@ module _ (question : Question) (form : Form) where
         }
 
     -- how many more are refused is told after them
-    pub told_to_end : (out0 out1 : Device W) (told0 told1 told2 : Device E) (lines : List Item) (count : ℕ) → count ≡ refused_count lines
-        → Answered rows_in messages_in question form out0 out1 told0 told1 lines → Received messages_in told1 told2 (more_refused form count)
-        → AnsweredToEnd rows_in messages_in question form out0 out1 told0 told2 lines
-    told_to_end out0 out1 told0 told1 told2 lines count is answered more = record {
+    pub told_to_end : (sink0 sink1 : S) (told0 told1 told2 : Device E) (lines : List Item) (count : ℕ) → count ≡ refused_count lines
+        → Answered stands stopped messages_in question form sink0 sink1 told0 told1 lines → Received messages_in told1 told2 (more_refused form count)
+        → AnsweredToEnd stands stopped messages_in question form sink0 sink1 told0 told2 lines
+    told_to_end sink0 sink1 told0 told1 told2 lines count is answered more = record {
       rows = answered.rows;
       messages = both_received told0 told1 told2 _ _ answered.messages (subst (λ n. Received messages_in told1 told2 (more_refused form n)) is more);
     }
 
     -- a beginning of that is
-    pub told_in_part : (out0 out1 : Device W) (told0 told1 told2 : Device E) (lines : List Item) (count : ℕ) → count ≡ refused_count lines
-        → Answered rows_in messages_in question form out0 out1 told0 told1 lines → Part messages_in told1 told2 (more_refused form count)
-        → AnsweredInPart rows_in messages_in question form out0 out1 told0 told2 lines
-    told_in_part out0 out1 told0 told1 told2 lines count is answered more = record {
-      all = true;
-      rows = part_more out0 out1 (output_from question form 1 lines) (summary_of form.summary form (selected_count question lines) true) (part_so_far out0 out1 _ answered.rows);
+    pub told_in_part : (sink0 sink1 : S) (told0 told1 told2 : Device E) (lines : List Item) (count : ℕ) → count ≡ refused_count lines
+        → Answered stands stopped messages_in question form sink0 sink1 told0 told1 lines → Part messages_in told1 told2 (more_refused form count)
+        → AnsweredInPart stands stopped messages_in question form sink0 sink1 told0 told2 lines
+    told_in_part sink0 sink1 told0 told1 told2 lines count is answered more = record {
+      rows = to_end sink0 sink1 lines (put_so_far stands stopped sink0 sink1 _ answered.rows);
       messages = part_behind told0 told1 told2 (messages_from form 0 1 lines) _ answered.messages (subst (λ n. Part messages_in told1 told2 (more_refused form n)) is more);
     }
 
     -- a write failed
-    pub stopped_in_part : (out0 out1 : Device W) (told0 told1 : Device E) (fault : SearchFault) (came : Came) (outcomes : List Item) → is_writer_fault fault ≡ true → (came.ended ≡ true → IsOfLines (framing_by form.units) came.bytes)
-        → AnsweredInPart rows_in messages_in question form out0 out1 told0 told1 (answered_of question form 0 outcomes) → SearchStopped rows_in messages_in question form out0 out1 told0 told1 fault came outcomes
-    stopped_in_part out0 out1 told0 told1 faults.Read came outcomes e l h = absurd (cc)
-    stopped_in_part out0 out1 told0 told1 faults.Framing came outcomes e l h = absurd (cc)
-    stopped_in_part out0 out1 told0 told1 (faults.Foreign format) came outcomes e l h = absurd (cc)
-    stopped_in_part out0 out1 told0 told1 faults.Size came outcomes e l h = absurd (cc)
-    stopped_in_part out0 out1 told0 told1 faults.Write came outcomes e l h = (l, h)
-    stopped_in_part out0 out1 told0 told1 faults.Report came outcomes e l h = (l, h)
-    stopped_in_part out0 out1 told0 told1 faults.Memory came outcomes e l h = absurd (cc)
+    pub stopped_in_part : (sink0 sink1 : S) (told0 told1 : Device E) (fault : SearchFault) (came : Came) (outcomes : List Item) → is_writer_fault fault ≡ true → (came.ended ≡ true → IsOfLines (framing_by form.units) came.bytes)
+        → AnsweredInPart stands stopped messages_in question form sink0 sink1 told0 told1 (answered_of question form 0 outcomes) → SearchStopped stands stopped messages_in question form sink0 sink1 told0 told1 fault came outcomes
+    stopped_in_part sink0 sink1 told0 told1 faults.Read came outcomes e l h = absurd (cc)
+    stopped_in_part sink0 sink1 told0 told1 faults.Framing came outcomes e l h = absurd (cc)
+    stopped_in_part sink0 sink1 told0 told1 (faults.Foreign format) came outcomes e l h = absurd (cc)
+    stopped_in_part sink0 sink1 told0 told1 faults.Size came outcomes e l h = absurd (cc)
+    stopped_in_part sink0 sink1 told0 told1 faults.Write came outcomes e l h = (l, h)
+    stopped_in_part sink0 sink1 told0 told1 faults.Report came outcomes e l h = (l, h)
+    stopped_in_part sink0 sink1 told0 told1 faults.Memory came outcomes e l h = absurd (cc)
 
     -- the stream is refused as a whole, before which nothing was written, or a write failed
-    pub stopped_by : (out0 out1 : Device W) (told0 told1 : Device E) (fault : SearchFault) (came : Came) (outcomes : List Item) → false ≡ is_read_fault fault → is_inner_fault fault ≡ false
-        → (is_front_fault fault ≡ true → IsRefused (framing_by form.units) came fault × Answered rows_in messages_in question form out0 out1 told0 told1 [])
+    pub stopped_by : (sink0 sink1 : S) (told0 told1 : Device E) (fault : SearchFault) (came : Came) (outcomes : List Item) → false ≡ is_read_fault fault → is_inner_fault fault ≡ false
+        → (is_front_fault fault ≡ true → IsRefused (framing_by form.units) came fault × Answered stands stopped messages_in question form sink0 sink1 told0 told1 [])
         → (is_front_fault fault ≡ false → came.ended ≡ true → IsOfLines (framing_by form.units) came.bytes)
-        → AnsweredInPart rows_in messages_in question form out0 out1 told0 told1 (answered_of question form 0 outcomes) → SearchStopped rows_in messages_in question form out0 out1 told0 told1 fault came outcomes
-    stopped_by out0 out1 told0 told1 faults.Read came outcomes e i front l h = absurd (cc)
-    stopped_by out0 out1 told0 told1 faults.Framing came outcomes e i front l h = front refl
-    stopped_by out0 out1 told0 told1 (faults.Foreign format) came outcomes e i front l h = front refl
-    stopped_by out0 out1 told0 told1 faults.Size came outcomes e i front l h = absurd (cc)
-    stopped_by out0 out1 told0 told1 faults.Write came outcomes e i front l h = (l refl, h)
-    stopped_by out0 out1 told0 told1 faults.Report came outcomes e i front l h = (l refl, h)
-    stopped_by out0 out1 told0 told1 faults.Memory came outcomes e i front l h = absurd (cc)
+        → AnsweredInPart stands stopped messages_in question form sink0 sink1 told0 told1 (answered_of question form 0 outcomes) → SearchStopped stands stopped messages_in question form sink0 sink1 told0 told1 fault came outcomes
+    stopped_by sink0 sink1 told0 told1 faults.Read came outcomes e i front l h = absurd (cc)
+    stopped_by sink0 sink1 told0 told1 faults.Framing came outcomes e i front l h = front refl
+    stopped_by sink0 sink1 told0 told1 (faults.Foreign format) came outcomes e i front l h = front refl
+    stopped_by sink0 sink1 told0 told1 faults.Size came outcomes e i front l h = absurd (cc)
+    stopped_by sink0 sink1 told0 told1 faults.Write came outcomes e i front l h = (l refl, h)
+    stopped_by sink0 sink1 told0 told1 faults.Report came outcomes e i front l h = (l refl, h)
+    stopped_by sink0 sink1 told0 told1 faults.Memory came outcomes e i front l h = absurd (cc)
 
 -- what is refused at its end is not framed
 pub refused_at_end : (form : Form) (fault : SearchFault) (came : Came) → came.ended ≡ true → fault ≡ faults.Framing → format_of came.bytes ≡ None → is_framed (framing_by form.units) came.bytes ≡ false

@@ -2,6 +2,7 @@
 use Rattle.std.proofs.Common.{◌≡◌, ◌∙◌, ℕ, List, [], ◌++◌, length, append_assoc, append-nil, sym, subst, inr, refl, true, false, Option, Result, Ok, Err}
 use Rattle.std.specs.Prelude.{MatchResult}
 use Rattle.jp_devices.specs.Devices.{Came, Device, GaveUpTo}
+use Rattle.jp_sink.specs.Events.{Event}
 use Rattle.jp_grep.specs.Faults.{is_front_fault, is_inner_fault, is_report_fault, is_writer_fault, limit_of}
 use Rattle.jp_grep.specs.Inputs.{ReadOn, WantsMore}
 use Rattle.jp_grep.specs.Items.{Item, items_come}
@@ -20,11 +21,11 @@ use Rattle.jp_form.specs.declared.form.Form.{Form}
 use Rattle.jp_grep.proofs.Coming.{came_next}
 
 -- what a search says of its lines
-abbrev pub SaysLines : {R W E : Type 0} → (R → Option (List ℕ)) → (W → Option (List ℕ)) → (E → Option (List ℕ)) → Question → Form → Input R → Input R → Device W → Device W → Device E → Device E → Result Found SearchFault → Type 0
-SaysLines remaining rows_in messages_in question form old new out0 out1 told0 told1 result = (came : Came) × (outcomes : List Item) × GaveUpTo remaining old.reader new.reader came
+abbrev pub SaysLines : {R S E : Type 0} → (R → Option (List ℕ)) → (stands stopped : S → List Event → Type 0) → (E → Option (List ℕ)) → Question → Form → Input R → Input R → S → S → Device E → Device E → Result Found SearchFault → Type 0
+SaysLines remaining stands stopped messages_in question form old new sink0 sink1 told0 told1 result = (came : Came) × (outcomes : List Item) × GaveUpTo remaining old.reader new.reader came
     × CameOfStream form came outcomes × ReadOn question form old new came.bytes outcomes × MatchResult result
-    (λ found. SearchedLines rows_in messages_in question form out0 out1 told0 told1 came outcomes found)
-    (λ fault. SearchStopped rows_in messages_in question form out0 out1 told0 told1 fault came outcomes)
+    (λ found. SearchedLines stands stopped messages_in question form sink0 sink1 told0 told1 came outcomes found)
+    (λ fault. SearchStopped stands stopped messages_in question form sink0 sink1 told0 told1 fault came outcomes)
 
 -- something is so of a result where it is so at Ok and at Err
 pub either_way : {A E : Type 0} (G : Result A E → Type 0) (P : A → Type 0) (Q : E → Type 0) (r : Result A E) → MatchResult r P Q → ((x : A) → P x → G (Ok x)) → ((e : E) → Q e → G (Err e)) → G r
@@ -116,11 +117,11 @@ first_came form came lines more others outcomes results split each next = record
 pub before_came : (form : Form) (came : Came) (lines more others outcomes : List Item) → items_come form.units came.ended came.bytes ≡ (lines ++ more) ++ others → CameOfEach lines outcomes → CameOfStream form came outcomes
 before_came form came lines more others outcomes split each = record { items = lines; others = more ++ others; split = split ∙ append_assoc lines more others; each = each }
 
--- where nothing was written, all is as it was
-pub still : (question : Question) (form : Form) {W E : Type 0} (rows_in : W → Option (List ℕ)) (messages_in : E → Option (List ℕ)) (source : Source) (before after : Progress) (out0 out1 out2 : Device W) (told0 told1 told2 : Device E)
-    (came : List ℕ) (lines outcomes : List Item) → (out2 ≡ out1) × (told2 ≡ told1) × (after ≡ before) → HasAnswered rows_in messages_in question form source before out0 out1 told0 told1 came lines outcomes
-    → HasAnswered rows_in messages_in question form source after out0 out2 told0 told2 came lines outcomes
-still question form {W} {E} rows_in messages_in source before after out0 out1 out2 told0 told1 told2 came lines outcomes same so =
-    subst (λ (p : Progress). HasAnswered rows_in messages_in question form source p out0 out2 told0 told2 came lines outcomes) (sym same.2)
-    (subst (λ (d : Device E). HasAnswered rows_in messages_in question form source before out0 out2 told0 d came lines outcomes) (sym same.1)
-    (subst (λ (d : Device W). HasAnswered rows_in messages_in question form source before out0 d told0 told1 came lines outcomes) (sym same.0) so))
+-- where nothing was told, all is as it was
+pub still : (question : Question) (form : Form) {S E : Type 0} (stands stopped : S → List Event → Type 0) (messages_in : E → Option (List ℕ)) (source : Source) (before after : Progress) (sink0 sink1 sink2 : S) (told0 told1 told2 : Device E)
+    (came : List ℕ) (lines outcomes : List Item) → (sink2 ≡ sink1) × (told2 ≡ told1) × (after ≡ before) → HasAnswered stands stopped messages_in question form source before sink0 sink1 told0 told1 came lines outcomes
+    → HasAnswered stands stopped messages_in question form source after sink0 sink2 told0 told2 came lines outcomes
+still question form {S} {E} stands stopped messages_in source before after sink0 sink1 sink2 told0 told1 told2 came lines outcomes same so =
+    subst (λ (p : Progress). HasAnswered stands stopped messages_in question form source p sink0 sink2 told0 told2 came lines outcomes) (sym same.2)
+    (subst (λ (d : Device E). HasAnswered stands stopped messages_in question form source before sink0 sink2 told0 d came lines outcomes) (sym same.1)
+    (subst (λ (d : S). HasAnswered stands stopped messages_in question form source before sink0 d told0 told1 came lines outcomes) (sym same.0) so))

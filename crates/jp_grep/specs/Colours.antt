@@ -1,13 +1,13 @@
 -- What the output in colours has to do with that without.
-use Rattle.std.specs.Prelude.{◌≡◌, ℕ, ◌<◌, ◌^◌, List, [], ◌∷◌, ◌++◌, All, length, map, Bool, false, true}
+use Rattle.std.specs.Prelude.{◌≡◌, ℕ, List, [], ◌∷◌, ◌++◌, All, map, Bool, false, true}
 use Rattle.jp_context.specs.Groups.{context_text}
 use Rattle.jp_context.specs.Told.{told_rows}
 use Rattle.jp_form.specs.declared.form.Form.{Form}
-use Rattle.jp_form.specs.declared.form.Shown.TheVariants as shown
 use Rattle.jp_form.specs.declared.form.Spelling.TheVariants as spellings
+use Rattle.jp_sink.specs.Events.{Event}
 use Rattle.jp_paint.specs.Laws.{Paints}
 use Rattle.jp_grep.specs.Items.{Item}
-use Rattle.jp_grep.specs.Rows.{output_from, summary_of}
+use Rattle.jp_grep.specs.Rows.{output_from, stream_events, summary_of}
 use Rattle.jp_grep.specs.Tables.{header_text}
 use Rattle.jp_grep.specs.declared.question.Question.{Question}
 
@@ -34,9 +34,10 @@ without_colours form = record {
 abbrev pub MarksSources : Form → Type 0
 MarksSources form = form.marked ≡ true → form.spelling ≡ spellings.Source
 
--- The rows of a stream differ by escape sequences alone from those without colours, and so does its summary. A header has none.
+-- The text of what is told of a stream differs by escape sequences alone from that without colours, and so does its summary. A header
+-- has none.
 abbrev pub ColoursComeOffRows : Type 0
-ColoursComeOffRows = (question : Question) (form : Form) → MarksSources form → ¬ (form.shown ≡ shown.Around)
+ColoursComeOffRows = (question : Question) (form : Form) → MarksSources form
     → (n : ℕ) (items : List Item) → Paints (output_from question (without_colours form) n items) (output_from question form n items)
 
 abbrev pub ColoursComeOffSummaries : Type 0
@@ -54,20 +55,15 @@ pub record Searched : Type 0 where
 abbrev pub searched_without : Searched → Searched
 searched_without one = record { form = without_colours one.form; items = one.items }
 
--- rows are told of it to a writer that shows those around selected ones
-pub record IsTold (one : Searched) : Type 0 where
-  pub marks : MarksSources one.form
-  pub around : one.form.shown ≡ shown.Around
+abbrev pub IsMarked : Searched → Type 0
+IsMarked one = MarksSources one.form
 
--- the rows of some streams, one stream after another
-abbrev pub rows_of : Question → List Searched → List ℕ
-rows_of question [] = []
-rows_of question (one ∷ rest) = output_from question one.form 1 one.items ++ rows_of question rest
+-- what is told of some streams, one stream after another
+abbrev pub events_of : Question → List Searched → List Event
+events_of question [] = []
+events_of question (one ∷ rest) = stream_events question one.form one.items ++ events_of question rest
 
--- What is shown around the selected lines of some streams differs by escape sequences alone from what is shown without colours, as
--- far as 64 bits count the bytes that tell it.
+-- What is shown around the selected lines of some streams differs by escape sequences alone from what is shown without colours.
 abbrev pub ColoursComeOffContext : Type 0
-ColoursComeOffContext = (question : Question) (streams : List Searched) → All IsTold streams
-    → length (rows_of question (map searched_without streams)) < 2 ^ 64 → length (rows_of question streams) < 2 ^ 64
-    → (is_coloured : Bool) (before after : ℕ)
-    → Paints (context_text false before after (told_rows (rows_of question (map searched_without streams)))) (context_text is_coloured before after (told_rows (rows_of question streams)))
+ColoursComeOffContext = (question : Question) (streams : List Searched) → All IsMarked streams → (is_coloured : Bool) (before after : ℕ)
+    → Paints (context_text false before after (told_rows (events_of question (map searched_without streams)))) (context_text is_coloured before after (told_rows (events_of question streams)))

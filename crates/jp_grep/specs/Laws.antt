@@ -7,7 +7,7 @@ use Rattle.jp_model.specs.Meaning.Paths.{path_text}
 use Rattle.jp_model.specs.Query.Syntax.{Segments, no_segments, path, root}
 use Rattle.jp_model.specs.Rows.{Row, node_row, refusal_row, line_feed, source, tab, status_rows as query_rows}
 use Rattle.jp_grep.specs.Matching.{conditions_of, each_of, queries_of}
-use Rattle.jp_grep.specs.Rows.{item_rows, selected_in}
+use Rattle.jp_grep.specs.Rows.{item_events, item_rows, selected_in}
 use Rattle.jp_grep.specs.Items.{Item, line_item}
 use Rattle.jp_form.specs.declared.form.Form.{Form}
 use Rattle.jp_form.specs.declared.form.Shown.TheVariants as shown
@@ -56,7 +56,7 @@ pub record AsksEachRoot (lines each : Question) : Type 0 where
   pub conditions : conditions_of each ≡ conditions_of lines
   pub wanted : each.wanted ≡ lines.wanted
 
--- They select alike, and what is written is the same.
+-- They select alike, and what is told is the same.
 abbrev pub EachRootIsItsLine : Type 0
 EachRootIsItsLine = (lines each : Question) → AsksEachRoot lines each → (form : Form) (n : ℕ) (item : Item)
-    → (item_rows each form n item ≡ item_rows lines form n item) × (selected_in each item ≡ selected_in lines item)
+    → (item_events each form n item ≡ item_events lines form n item) × (selected_in each item ≡ selected_in lines item)

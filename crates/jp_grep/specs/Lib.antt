@@ -17,7 +17,7 @@ pub mod Watching
 pub mod Inputs
 pub mod Cuts
 pub mod Faults
-pub mod Holding
+pub mod Telling
 pub mod Positions
 pub mod Stands
 pub mod Sizes

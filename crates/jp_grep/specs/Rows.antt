@@ -1,7 +1,6 @@
 -- What is written of a line, and what is told of it.
 use Rattle.std.specs.Prelude.{ℕ, zero, ◌+◌, List, [], ◌∷◌, ◌++◌, map, flat_map, codes, cond, decimal, count_by, sum_by, Bool, true, false, ◌==◌, ◌&&◌, if◌then◌else◌, ltb, take, Option, Some, None}
-use Rattle.std.specs.List.{concat}
-use Rattle.jp_context.specs.Told.{told_text}
+use Rattle.jp_sink.specs.Events.{Event, gap_event, node_event, row_event, text_of}
 use Rattle.jp_paint.specs.Colours.{painted}
 use Rattle.jp_paint.specs.Marked.{marked_part, marked_text}
 use Rattle.jp_paint.specs.declared.part.Part.TheVariants as parts
@@ -18,6 +17,7 @@ use Rattle.jp_grep.specs.Matching.{is_selected, nodes_of, queries_of, selected_n
 use Rattle.jp_grep.specs.Items.{Item, framing_by, is_given_up, judged}
 use Rattle.jp_grep.specs.Spelled.{printed, spelled}
 use Rattle.jp_grep.specs.Tables.{table_row}
+use Rattle.jp_grep.specs.Telling.{gap_where}
 use Rattle.jp_form.specs.declared.form.Form.{Form}
 use Rattle.jp_form.specs.declared.form.Shown.{Shown}
 use Rattle.jp_form.specs.declared.form.Shown.TheVariants as shown
@@ -56,10 +56,6 @@ row form n body = front (codes ":") form n ++ (body ++ line_feed)
 abbrev pub row_around : Form → ℕ → List ℕ → List ℕ
 row_around form n body = front (codes "-") form n ++ (body ++ line_feed)
 
--- a row of line n as it is told to a writer that shows rows around selected ones
-abbrev pub row_told : (selected : Bool) → ℕ → List ℕ → List ℕ
-row_told selected n text = told_text (record { selected = selected; first = n == 1; text = text })
-
 -- a line as it is printed: its bytes, and of a text or an element those from the first of its value to the last
 abbrev pub whole : Units → List ℕ → Tree → List ℕ
 whole (unit.Lines framings.Lines) line t = line
@@ -95,42 +91,57 @@ path_front true coloured node = painted coloured parts.Place (path_text node.loc
 abbrev pub value_row : Form → Bool → ℕ → List ℕ → Node → List ℕ
 value_row form paths n line node = row form n (path_front paths form.coloured node ++ spelled form.spelling form.units line node.tree)
 
--- the rows of a node of line n that is selected
-abbrev pub node_rows : Shown → Question → Form → ℕ → List ℕ → Tree → Node → List (List ℕ)
-node_rows shown.Nothing question form n line t node = []
-node_rows (shown.Line faults) question form n line t node = row form n (shown_line question form line t node) ∷ []
-node_rows shown.Around question form n line t node = row_told true n (row form n (shown_line question form line t node)) ∷ []
-node_rows (shown.Values paths) question form n line t node = map (value_row form paths n line) (nodes_of (queries_of question) node t)
-node_rows (shown.Cells table) question form n line t node = table_row table (queries_of question) form n line t node ∷ []
+-- and what is told of it
+abbrev pub value_event : Form → Bool → ℕ → List ℕ → Node → Event
+value_event form paths n line node = row_event true (value_row form paths n line node)
 
--- the rows of a node that is asked
-abbrev pub asked_rows : Question → Form → ℕ → List ℕ → Tree → Node → List (List ℕ)
-asked_rows question form n line t node = if is_selected question t node then node_rows form.shown question form n line t node else []
+-- what is told of a node of line n that is selected: its rows, or the node itself
+abbrev pub node_events : Shown → Question → Form → ℕ → List ℕ → Tree → Node → List Event
+node_events shown.Nothing question form n line t node = []
+node_events (shown.Line faults) question form n line t node = row_event true (row form n (shown_line question form line t node)) ∷ []
+node_events shown.Around question form n line t node = row_event true (row form n (shown_line question form line t node)) ∷ []
+node_events shown.Nodes question form n line t node = node_event n line node ∷ []
+node_events (shown.Values paths) question form n line t node = map (value_event form paths n line) (nodes_of (queries_of question) node t)
+node_events (shown.Cells table) question form n line t node = row_event true (table_row table (queries_of question) form n line t node) ∷ []
 
--- the same as one text, but for the rows of values, since there may be many
+-- what is told of a node that is asked
+abbrev pub asked_events : Question → Form → ℕ → List ℕ → Tree → Node → List Event
+asked_events question form n line t node = if is_selected question t node then node_events form.shown question form n line t node else []
+
+-- the text of its one row, where it has one
 abbrev pub row_at_once : Shown → Question → Form → ℕ → List ℕ → Tree → Node → List ℕ
 row_at_once shown.Nothing question form n line t node = []
 row_at_once (shown.Line faults) question form n line t node = row form n (shown_line question form line t node)
-row_at_once shown.Around question form n line t node = row_told true n (row form n (shown_line question form line t node))
+row_at_once shown.Around question form n line t node = row form n (shown_line question form line t node)
+row_at_once shown.Nodes question form n line t node = []
 row_at_once (shown.Values paths) question form n line t node = []
 row_at_once (shown.Cells table) question form n line t node = table_row table (queries_of question) form n line t node
+
+-- what is told of a node where that is not the values that the queries select of it, by its row
+abbrev pub selected_event : Shown → ℕ → (line : List ℕ) → Node → (row : List ℕ) → List Event
+selected_event shown.Nothing n line node row = []
+selected_event (shown.Line faults) n line node row = row_event true row ∷ []
+selected_event shown.Around n line node row = row_event true row ∷ []
+selected_event shown.Nodes n line node row = node_event n line node ∷ []
+selected_event (shown.Values paths) n line node row = []
+selected_event (shown.Cells table) n line node row = row_event true row ∷ []
 
 -- the word of its fault in front of a refused line
 abbrev pub fault_front : Bool → LineFault → List ℕ
 fault_front false fault = []
 fault_front true fault = line_fault_word fault ++ tab
 
--- the rows of a refused line that is selected: its bytes, and no values or cells, since it has none
-abbrev pub refused_rows : Shown → Form → ℕ → List ℕ → LineFault → List (List ℕ)
-refused_rows (shown.Line faults) form n line fault = row form n (fault_front faults fault ++ line) ∷ []
-refused_rows shown.Around form n line fault = row_told true n (row form n line) ∷ []
-refused_rows _ form n line fault = []
+-- what is told of a refused line that is selected: its bytes, and no values or cells, since it has none
+abbrev pub refused_events : Shown → Form → ℕ → List ℕ → LineFault → List Event
+refused_events (shown.Line faults) form n line fault = row_event true (row form n (fault_front faults fault ++ line)) ∷ []
+refused_events shown.Around form n line fault = row_event true (row form n line) ∷ []
+refused_events _ form n line fault = []
 
--- the rows of the nodes of a line, a text or an element that are selected, as far as they are wanted
-abbrev pub selected_rows : Question → Form → ℕ → List ℕ → (most : Option ℕ) → LineStatus → List (List ℕ)
-selected_rows question form n line most blank = []
-selected_rows question form n line most (refused fault) = if wants_refused question.wanted then refused_rows form.shown form n line fault else []
-selected_rows question form n line most (parsed t) = flat_map (node_rows form.shown question form n line t) (wanted_of most (selected_nodes question t))
+-- what is told of the nodes of a line, a text or an element that are selected, as far as they are wanted
+abbrev pub selected_events : Question → Form → ℕ → List ℕ → (most : Option ℕ) → LineStatus → List Event
+selected_events question form n line most blank = []
+selected_events question form n line most (refused fault) = if wants_refused question.wanted then refused_events form.shown form n line fault else []
+selected_events question form n line most (parsed t) = flat_map (node_events form.shown question form n line t) (wanted_of most (selected_nodes question t))
 
 -- a line as it stands around selected ones: as it is
 abbrev pub text_around : Units → List ℕ → LineStatus → List ℕ
@@ -138,22 +149,22 @@ text_around units line blank = line
 text_around units line (refused fault) = line
 text_around units line (parsed t) = whole units line t
 
--- the rows of a line of which `selected` nodes are selected, where those around selected ones are shown: one where it is none
-abbrev pub rows_around : Shown → Form → ℕ → List ℕ → (selected : ℕ) → LineStatus → List (List ℕ)
-rows_around shown.Around form n line zero status = row_told false n (row_around form n (text_around form.units line status)) ∷ []
-rows_around _ form n line selected status = []
+-- the row of a line of which `selected` nodes are selected, where those around selected ones are shown: where it is none
+abbrev pub events_around : Shown → Form → ℕ → List ℕ → (selected : ℕ) → LineStatus → List Event
+events_around shown.Around form n line zero status = row_event false (row_around form n (text_around form.units line status)) ∷ []
+events_around _ form n line selected status = []
 
--- the rows of a line, a text or an element that counts as one of this status: one that is not judged as a blank one
-abbrev pub counted_rows : Question → Form → ℕ → List ℕ → (most : Option ℕ) → (counted : LineStatus) → LineStatus → List (List ℕ)
-counted_rows question form n line most counted status = selected_rows question form n line most counted ++ rows_around form.shown form n line (selected_of question most counted) status
+-- what is told of a line, a text or an element that counts as one of this status: of one that is not judged as of a blank one
+abbrev pub counted_events : Question → Form → ℕ → List ℕ → (most : Option ℕ) → (counted : LineStatus) → LineStatus → List Event
+counted_events question form n line most counted status = selected_events question form n line most counted ++ events_around form.shown form n line (selected_of question most counted) status
 
-abbrev pub status_rows : Question → Form → ℕ → List ℕ → (most : Option ℕ) → LineStatus → List (List ℕ)
-status_rows question form n line most status = counted_rows question form n line most (judged most status) status
+abbrev pub status_events : Question → Form → ℕ → List ℕ → (most : Option ℕ) → LineStatus → List Event
+status_events question form n line most status = counted_events question form n line most (judged most status) status
 
--- those that are written: all, or where memory was refused the first
-abbrev pub written_of : (given_up : Option ℕ) → List (List ℕ) → List ℕ
-written_of None rows = concat rows
-written_of (Some count) rows = concat (take count rows)
+-- those that are told: all, or where memory was refused the first
+abbrev pub told_of_all : (given_up : Option ℕ) → List Event → List Event
+told_of_all None events = events
+told_of_all (Some count) events = take count events
 
 -- the number of the line of the stream in which a text or an element begins, after the word of its fault
 abbrev pub from_line_text : Option ℕ → List ℕ
@@ -205,16 +216,29 @@ selected_in question item = selected_where (is_given_up item) question item.most
 abbrev pub refused_item : Item → Bool
 refused_item item = refused_where (is_given_up item) (judged item.most item.status)
 
-abbrev pub item_rows : Question → Form → ℕ → Item → List ℕ
-item_rows question form n item = written_of item.given_up (status_rows question form n item.text item.most item.status)
+-- what is told of it: where it is given up, what comes next does not follow it
+abbrev pub item_events : Question → Form → ℕ → Item → List Event
+item_events question form n item = told_of_all item.given_up (status_events question form n item.text item.most item.status) ++ gap_where (is_given_up item)
 
 abbrev pub item_message : Form → (before : ℕ) → ℕ → Item → List ℕ
 item_message form before n item = message_where (is_given_up item) form before n item.from_line (judged item.most item.status)
 
--- the output of some items, where the first has number n
+-- the text of it
+abbrev pub item_rows : Question → Form → ℕ → Item → List ℕ
+item_rows question form n item = text_of (item_events question form n item)
+
+-- what is told of some items, where the first has number n
+abbrev pub events_from : Question → Form → ℕ → List Item → List Event
+events_from question form n [] = []
+events_from question form n (item ∷ rest) = item_events question form n item ++ events_from question form (n + 1) rest
+
+-- and of a stream of them, which begins after another
+abbrev pub stream_events : Question → Form → List Item → List Event
+stream_events question form items = gap_event ∷ events_from question form 1 items
+
+-- the text of some items
 abbrev pub output_from : Question → Form → ℕ → List Item → List ℕ
-output_from question form n [] = []
-output_from question form n (item ∷ rest) = item_rows question form n item ++ output_from question form (n + 1) rest
+output_from question form n items = text_of (events_from question form n items)
 
 -- how many of them are refused
 abbrev pub refused_count : List Item → ℕ

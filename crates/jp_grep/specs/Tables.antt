@@ -49,5 +49,6 @@ abbrev pub header_text : Shown → Form → List (List ℕ) → List ℕ
 header_text shown.Nothing form names = []
 header_text (shown.Line faults) form names = []
 header_text shown.Around form names = []
+header_text shown.Nodes form names = []
 header_text (shown.Values paths) form names = []
 header_text (shown.Cells table) form names = header_row table form names

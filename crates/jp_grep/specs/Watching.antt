@@ -1,12 +1,15 @@
 -- What passed in a search, by the fault that it answers.
 use Rattle.std.specs.Prelude.{◌≡◌, ◌<◌, ℕ, zero, suc, map, take, ◌+◌, ◌-◌, List, [], ◌∷◌, ◌++◌, length, Bool, true, false, ◌&&◌, ◌==◌, is_none, Option, Some, None, MatchOption, ◌⊎◌}
 use Rattle.jp_devices.specs.Devices.{Begins, Came, Device, Received}
+use Rattle.jp_sink.specs.Events.{Event}
+use Rattle.jp_sink.specs.Telling.{Takes}
 use Rattle.jp_grep.specs.Formats.{format_of}
 use Rattle.jp_grep.specs.Fronts.{IsOfLines, IsRefused}
 use Rattle.jp_grep.specs.Items.{Item, framing_by, items_come, unjudged_count}
 use Rattle.jp_grep.specs.Outcomes.{CameOfEach, given_up_count}
-use Rattle.jp_grep.specs.Rows.{messages_from, output_from, refused_count, selected_count, selected_in, summary_of}
+use Rattle.jp_grep.specs.Rows.{messages_from, refused_count, selected_count, selected_in, stream_events, summary_of}
 use Rattle.jp_grep.specs.Sizes.{IsOversize}
+use Rattle.jp_grep.specs.Telling.{AreParts, TakesPart}
 use Rattle.jp_grep.specs.Told.{told_of}
 use Rattle.jp_grep.specs.declared.fault.SearchFault.{SearchFault}
 use Rattle.jp_grep.specs.declared.fault.SearchFault.TheVariants as faults
@@ -57,38 +60,43 @@ EndsWith question form came outcomes found = MatchOption found.unread
     ((format_of came.bytes ≡ None) × CameOfEach (items_come form.units came.ended came.bytes) outcomes × ((came.ended ≡ true) ⊎ IsEnough form found.counts.selected (unjudged_count (answered_of question form 0 outcomes))))
     (λ unread. (unread.line ≡ 1 + length (answered_of question form 0 outcomes)) × (unread.limit ≡ limits.Size → IsOversize form.units came outcomes))
 
-module _ {W E : Type 0} (rows_in : W → Option (List ℕ)) (messages_in : E → Option (List ℕ)) where
-  -- both writers received what is answered of these items, and nothing else
-  pub record Answered (question : Question) (form : Form) (out0 out1 : Device W) (told0 told1 : Device E) (items : List Item) : Type 0 where
-    pub rows : Received rows_in out0 out1 (output_from question form 1 items)
+module _ {S E : Type 0} (stands stopped : S → List Event → Type 0) (messages_in : E → Option (List ℕ)) where
+  -- the sink took what is told of these items, the writer received the messages on them, and neither anything else
+  pub record Answered (question : Question) (form : Form) (sink0 sink1 : S) (told0 told1 : Device E) (items : List Item) : Type 0 where
+    pub rows : Takes stands sink0 sink1 (stream_events question form items)
     pub messages : Received messages_in told0 told1 (messages_from form 0 1 items)
 
   -- both received what is answered of these items, and after it what is told of all
-  pub record AnsweredToEnd (question : Question) (form : Form) (out0 out1 : Device W) (told0 told1 : Device E) (items : List Item) : Type 0 where
-    pub rows : Received rows_in out0 out1 (output_from question form 1 items)
+  pub record AnsweredToEnd (question : Question) (form : Form) (sink0 sink1 : S) (told0 told1 : Device E) (items : List Item) : Type 0 where
+    pub rows : Takes stands sink0 sink1 (stream_events question form items)
     pub messages : Received messages_in told0 told1 (told_of form items)
 
-  -- the rows of these items, and what is written after them
-  abbrev pub whole_output : Question → Form → (all : Bool) → List Item → List ℕ
-  whole_output question form all items = output_from question form 1 items ++ summary_of form.summary form (selected_count question items) all
+  -- The sink took what is told of these items, and after it a text by parts.
+  abbrev pub TakesToEnd : Question → Form → (sink0 sink1 : S) → (all : Bool) → List Item → Type 0
+  TakesToEnd question form sink0 sink1 all items = (parts : List Event) × AreParts (summary_of form.summary form (selected_count question items) all) parts
+      × Takes stands sink0 sink1 (stream_events question form items ++ parts)
 
-  -- both received a beginning of it, and nothing else
-  pub record AnsweredInPart (question : Question) (form : Form) (out0 out1 : Device W) (told0 told1 : Device E) (items : List Item) : Type 0 where
-    pub all : Bool
-    pub rows : (part : List ℕ) × Begins part (whole_output question form all items) × Received rows_in out0 out1 part
+  -- It took a part of it.
+  abbrev pub TakesSome : Question → Form → (sink0 sink1 : S) → List Item → Type 0
+  TakesSome question form sink0 sink1 items = (all : Bool) × (parts : List Event) × AreParts (summary_of form.summary form (selected_count question items) all) parts
+      × TakesPart stands stopped sink0 sink1 (stream_events question form items ++ parts)
+
+  -- The sink took a part of it, and the writer received a beginning of the messages.
+  pub record AnsweredInPart (question : Question) (form : Form) (sink0 sink1 : S) (told0 told1 : Device E) (items : List Item) : Type 0 where
+    pub rows : TakesSome question form sink0 sink1 items
     pub messages : (part : List ℕ) × Begins part (told_of form items) × Received messages_in told0 told1 part
 
   -- What passed while the lines of a stream were answered, as far as they were.
-  pub record SearchedLines (question : Question) (form : Form) (out0 out1 : Device W) (told0 told1 : Device E) (came : Came) (outcomes : List Item) (found : Found) : Type 0 where
+  pub record SearchedLines (question : Question) (form : Form) (sink0 sink1 : S) (told0 told1 : Device E) (came : Came) (outcomes : List Item) (found : Found) : Type 0 where
     pub framed : came.ended ≡ true → IsOfLines (framing_by form.units) came.bytes
-    pub all : Answered question form out0 out1 told0 told1 (answered_of question form 0 outcomes)
+    pub all : Answered question form sink0 sink1 told0 told1 (answered_of question form 0 outcomes)
     pub counts : AreCounts question found.counts (answered_of question form 0 outcomes)
     pub end : EndsWith question form came outcomes found
 
   -- What passed in a search that came to its end, or passed over the rest of its stream.
-  pub record Searched (question : Question) (form : Form) (out0 out1 : Device W) (told0 told1 : Device E) (came : Came) (outcomes : List Item) (found : Found) : Type 0 where
+  pub record Searched (question : Question) (form : Form) (sink0 sink1 : S) (told0 told1 : Device E) (came : Came) (outcomes : List Item) (found : Found) : Type 0 where
     pub framed : came.ended ≡ true → IsOfLines (framing_by form.units) came.bytes
-    pub rows : Received rows_in out0 out1 (whole_output question form (is_whole found) (answered_of question form 0 outcomes))
+    pub rows : TakesToEnd question form sink0 sink1 (is_whole found) (answered_of question form 0 outcomes)
     pub messages : Received messages_in told0 told1 (told_of form (answered_of question form 0 outcomes))
     pub counts : AreCounts question found.counts (answered_of question form 0 outcomes)
     pub end : EndsWith question form came outcomes found
@@ -96,15 +104,15 @@ module _ {W E : Type 0} (rows_in : W → Option (List ℕ)) (messages_in : E →
   -- What passed in one that stopped, by the fault. A failed read leaves no line unanswered whose end came. Of a stream that is
   -- refused as a whole nothing is answered. After a write that failed the stream is one of lines, if it had ended. A size or a
   -- growth stops none.
-  abbrev pub SearchStopped : Question → Form → Device W → Device W → Device E → Device E → SearchFault → Came → List Item → Type 0
-  SearchStopped question form out0 out1 told0 told1 faults.Read came outcomes =
+  abbrev pub SearchStopped : Question → Form → S → S → Device E → Device E → SearchFault → Came → List Item → Type 0
+  SearchStopped question form sink0 sink1 told0 told1 faults.Read came outcomes =
       (came.ended ≡ false) × (format_of came.bytes ≡ None) × CameOfEach (items_come form.units false came.bytes) outcomes
-      × AnsweredToEnd question form out0 out1 told0 told1 (answered_of question form 0 outcomes)
-  SearchStopped question form out0 out1 told0 told1 faults.Framing came outcomes =
-      IsRefused (framing_by form.units) came faults.Framing × Answered question form out0 out1 told0 told1 []
-  SearchStopped question form out0 out1 told0 told1 (faults.Foreign format) came outcomes =
-      IsRefused (framing_by form.units) came (faults.Foreign format) × Answered question form out0 out1 told0 told1 []
-  SearchStopped question form out0 out1 told0 told1 faults.Size came outcomes = ⊥
-  SearchStopped question form out0 out1 told0 told1 faults.Memory came outcomes = ⊥
-  SearchStopped question form out0 out1 told0 told1 fault came outcomes =
-      (came.ended ≡ true → IsOfLines (framing_by form.units) came.bytes) × AnsweredInPart question form out0 out1 told0 told1 (answered_of question form 0 outcomes)
+      × AnsweredToEnd question form sink0 sink1 told0 told1 (answered_of question form 0 outcomes)
+  SearchStopped question form sink0 sink1 told0 told1 faults.Framing came outcomes =
+      IsRefused (framing_by form.units) came faults.Framing × Answered question form sink0 sink1 told0 told1 []
+  SearchStopped question form sink0 sink1 told0 told1 (faults.Foreign format) came outcomes =
+      IsRefused (framing_by form.units) came (faults.Foreign format) × Answered question form sink0 sink1 told0 told1 []
+  SearchStopped question form sink0 sink1 told0 told1 faults.Size came outcomes = ⊥
+  SearchStopped question form sink0 sink1 told0 told1 faults.Memory came outcomes = ⊥
+  SearchStopped question form sink0 sink1 told0 told1 fault came outcomes =
+      (came.ended ≡ true → IsOfLines (framing_by form.units) came.bytes) × AnsweredInPart question form sink0 sink1 told0 told1 (answered_of question form 0 outcomes)

@@ -6,23 +6,23 @@ ghost use Rattle.jp_masks.specs.Found.{lines_in};
 ghost use Rattle.jp_grep.specs.Cuts.{text_of};
 ghost use Rattle.jp_grep.specs.Faults.{is_input_fault, is_read_fault};
 ghost use Rattle.jp_grep.specs.Finding.{noted_items, span_of};
-ghost use Rattle.jp_grep.specs.Holding.{AreOpen, TellsOfSearch};
 ghost use Rattle.jp_grep.specs.Items.{line_item};
 ghost use Rattle.jp_grep.specs.Searching.{Advances, Answers, Ends, IsUnderWay};
 ghost use Rattle.jp_grep.specs.Sizes.{TellsOfNumbers};
 ghost use Rattle.jp_grep.specs.Stands.{HasStood};
+ghost use Rattle.jp_grep.specs.Telling.{AreOpen, TellsOfSearch};
 ghost use Rattle.jp_grep.specs.declared.source.Source.TheVariants as sources;
 
 use crate::answer::Answerer;
 use crate::cutting::Cutting;
 use crate::fault::SearchFault;
 use crate::items::ReadItems;
-use crate::outlet::Outlet;
 use crate::progress::Progress;
 use crate::stream::{Stream, find_end};
 use jp_cut::PieceAt;
 use jp_lines::BatchRoom;
 use jp_model::{Span, Watched};
+use jp_sink::Sink;
 use std::alloc::{AllocError, Global};
 use std::io::Write;
 
@@ -31,7 +31,6 @@ use std::io::Write;
 pub(crate) struct Answering {
     room: BatchRoom,
     spans: Vec<Span>,
-    outlet: Outlet,
     pub(crate) progress: Progress,
 }
 
@@ -62,51 +61,50 @@ impl Answering {
         Answering {
             room: BatchRoom::new(alloc),
             spans: Vec::new(alloc),
-            outlet: Outlet::new(alloc),
             progress: Progress::new(),
         }
     }
 
     /// Answers the lines of the bytes that are held up to an end of a line, or up to the end of the stream.
-    fn answer_until<W: Write, E: Write>(
+    fn answer_until<S: Sink, E: Write>(
         &mut self,
         answerer: Answerer<'_>,
         stream: &Stream,
         end: usize,
-        out: &mut Watched<W>,
+        sink: &mut S,
         messages: &mut Watched<E>,
     ) -> Result<(), SearchFault>
         requires end { end ≤ length stream.now.held.items }
         requires few { length stream.now.held.items < 2 ^ 32 }
         requires under_way { IsUnderWay answerer.form.now self.old.progress }
-        requires open { AreOpen out.old messages.old }
-        ensures answers { Answers W.contents E.contents answerer.entry.question.now answerer.entry.form.now self.old.progress self.new.progress out.old out.new messages.old messages.new result
+        requires open { AreOpen (S.state sink.old) messages.old }
+        ensures answers { Answers S.stands S.stopped E.contents answerer.entry.question.now answerer.entry.form.now self.old.progress self.new.progress sink.old sink.new messages.old messages.new result
             (map (line_item stream.now.framing) (lines_in stream.now.framing (text_of stream.now.is_first (take end stream.now.held.items)))) }
         ensures size { TellsOfNumbers result self.old.progress (map (line_item stream.now.framing) (lines_in stream.now.framing (text_of stream.now.is_first (take end stream.now.held.items)))) }
-        ensures tells { TellsOfSearch is_input_fault result out.old out.new messages.old messages.new }
+        ensures tells { TellsOfSearch is_input_fault result (S.state sink.old) (S.state sink.new) messages.old messages.new }
     {
         let text = stream.text_until(end);
         let Ok(batch) = self.room.read(stream.framing, text) else {
             return Err(SearchFault::Memory);
         };
         let lines = ReadItems::of_lines(batch);
-        answerer.answer_items(lines, &mut self.progress, &mut self.outlet, out, messages)
+        answerer.answer_items(lines, &mut self.progress, sink, messages)
     }
 
     /// Holds the bytes that came, and answers the lines that end among them, unless the stream is refused by its first bytes.
-    pub(crate) fn answer_lines<W: Write, E: Write>(
+    pub(crate) fn answer_lines<S: Sink, E: Write>(
         &mut self,
         answerer: Answerer<'_>,
         stream: &mut Stream,
         bytes: &[u8],
-        out: &mut Watched<W>,
+        sink: &mut S,
         messages: &mut Watched<E>,
     ) -> Result<(), SearchFault>
         requires stands { HasStood answerer.form.now.units (sources.Lines stream.old) }
         requires under_way { IsUnderWay answerer.form.now self.old.progress }
-        requires open { AreOpen out.old messages.old }
-        ensures advances { Advances W.contents E.contents answerer.entry.question.now answerer.entry.form.now (sources.Lines stream.old) (sources.Lines stream.new) self.old.progress self.new.progress out.old out.new messages.old messages.new result bytes.now }
-        ensures tells { TellsOfSearch is_read_fault result out.old out.new messages.old messages.new }
+        requires open { AreOpen (S.state sink.old) messages.old }
+        ensures advances { Advances S.stands S.stopped E.contents answerer.entry.question.now answerer.entry.form.now (sources.Lines stream.old) (sources.Lines stream.new) self.old.progress self.new.progress sink.old sink.new messages.old messages.new result bytes.now }
+        ensures tells { TellsOfSearch is_read_fault result (S.state sink.old) (S.state sink.new) messages.old messages.new }
     {
         let from = stream.held.len();
         let end = find_end(stream.framing, bytes);
@@ -115,7 +113,7 @@ impl Answering {
         match end {
             None => Ok(()),
             Some(end) => {
-                self.answer_until(answerer, stream, from + end, out, messages)?;
+                self.answer_until(answerer, stream, from + end, sink, messages)?;
                 stream.let_go(from + end);
                 Ok(())
             }
@@ -123,38 +121,38 @@ impl Answering {
     }
 
     /// Answers the lines that the end of the stream leaves, unless it is not framed.
-    pub(crate) fn answer_last_lines<W: Write, E: Write>(
+    pub(crate) fn answer_last_lines<S: Sink, E: Write>(
         &mut self,
         answerer: Answerer<'_>,
         stream: &Stream,
-        out: &mut Watched<W>,
+        sink: &mut S,
         messages: &mut Watched<E>,
     ) -> Result<(), SearchFault>
         requires stands { HasStood answerer.form.now.units (sources.Lines stream.now) }
         requires under_way { IsUnderWay answerer.form.now self.old.progress }
-        requires open { AreOpen out.old messages.old }
-        ensures ends { Ends W.contents E.contents answerer.entry.question.now answerer.entry.form.now (sources.Lines stream.now) self.old.progress self.new.progress out.old out.new messages.old messages.new result }
-        ensures tells { TellsOfSearch is_read_fault result out.old out.new messages.old messages.new }
+        requires open { AreOpen (S.state sink.old) messages.old }
+        ensures ends { Ends S.stands S.stopped E.contents answerer.entry.question.now answerer.entry.form.now (sources.Lines stream.now) self.old.progress self.new.progress sink.old sink.new messages.old messages.new result }
+        ensures tells { TellsOfSearch is_read_fault result (S.state sink.old) (S.state sink.new) messages.old messages.new }
     {
         stream.check_end()?;
-        self.answer_until(answerer, stream, stream.held.len(), out, messages)
+        self.answer_until(answerer, stream, stream.held.len(), sink, messages)
     }
 
     /// Answers the pieces that are noted.
-    fn answer_noted<W: Write, E: Write>(
+    fn answer_noted<S: Sink, E: Write>(
         &mut self,
         answerer: Answerer<'_>,
         cutting: &Cutting,
-        out: &mut Watched<W>,
+        sink: &mut S,
         messages: &mut Watched<E>,
     ) -> Result<(), SearchFault>
         requires held { All (IsHeld cutting.now.cutter) cutting.now.pieces.items }
         requires under_way { IsUnderWay answerer.form.now self.old.progress }
-        requires open { AreOpen out.old messages.old }
-        ensures answers { Answers W.contents E.contents answerer.entry.question.now answerer.entry.form.now self.old.progress self.new.progress out.old out.new messages.old messages.new result
+        requires open { AreOpen (S.state sink.old) messages.old }
+        ensures answers { Answers S.stands S.stopped E.contents answerer.entry.question.now answerer.entry.form.now self.old.progress self.new.progress sink.old sink.new messages.old messages.new result
             (noted_items cutting.now) }
         ensures size { TellsOfNumbers result self.old.progress (noted_items cutting.now) }
-        ensures tells { TellsOfSearch is_input_fault result out.old out.new messages.old messages.new }
+        ensures tells { TellsOfSearch is_input_fault result (S.state sink.old) (S.state sink.new) messages.old messages.new }
     {
         if list_spans(&cutting.pieces, &mut self.spans).is_err() {
             return Err(SearchFault::Memory);
@@ -163,47 +161,47 @@ impl Answering {
             return Err(SearchFault::Memory);
         };
         let items = ReadItems::of_pieces(batch, &cutting.pieces);
-        answerer.answer_items(items, &mut self.progress, &mut self.outlet, out, messages)
+        answerer.answer_items(items, &mut self.progress, sink, messages)
     }
 
     /// Takes in the bytes that came, and answers the pieces that end among them, unless the stream is refused by its first bytes.
-    pub(crate) fn answer_pieces<W: Write, E: Write>(
+    pub(crate) fn answer_pieces<S: Sink, E: Write>(
         &mut self,
         answerer: Answerer<'_>,
         cutting: &mut Cutting,
         bytes: &[u8],
-        out: &mut Watched<W>,
+        sink: &mut S,
         messages: &mut Watched<E>,
     ) -> Result<(), SearchFault>
         requires stands { HasStood answerer.form.now.units (sources.Pieces cutting.old) }
         requires under_way { IsUnderWay answerer.form.now self.old.progress }
-        requires open { AreOpen out.old messages.old }
-        ensures advances { Advances W.contents E.contents answerer.entry.question.now answerer.entry.form.now (sources.Pieces cutting.old) (sources.Pieces cutting.new) self.old.progress self.new.progress out.old out.new messages.old messages.new result bytes.now }
-        ensures tells { TellsOfSearch is_read_fault result out.old out.new messages.old messages.new }
+        requires open { AreOpen (S.state sink.old) messages.old }
+        ensures advances { Advances S.stands S.stopped E.contents answerer.entry.question.now answerer.entry.form.now (sources.Pieces cutting.old) (sources.Pieces cutting.new) self.old.progress self.new.progress sink.old sink.new messages.old messages.new result bytes.now }
+        ensures tells { TellsOfSearch is_read_fault result (S.state sink.old) (S.state sink.new) messages.old messages.new }
     {
         cutting.take_in(bytes)?;
         if cutting.is_first {
             return Ok(());
         }
         cutting.find_ended()?;
-        self.answer_noted(answerer, cutting, out, messages)
+        self.answer_noted(answerer, cutting, sink, messages)
     }
 
     /// Answers the pieces that the end of the stream leaves.
-    pub(crate) fn answer_last_pieces<W: Write, E: Write>(
+    pub(crate) fn answer_last_pieces<S: Sink, E: Write>(
         &mut self,
         answerer: Answerer<'_>,
         cutting: &mut Cutting,
-        out: &mut Watched<W>,
+        sink: &mut S,
         messages: &mut Watched<E>,
     ) -> Result<(), SearchFault>
         requires stands { HasStood answerer.form.now.units (sources.Pieces cutting.old) }
         requires under_way { IsUnderWay answerer.form.now self.old.progress }
-        requires open { AreOpen out.old messages.old }
-        ensures ends { Ends W.contents E.contents answerer.entry.question.now answerer.entry.form.now (sources.Pieces cutting.old) self.old.progress self.new.progress out.old out.new messages.old messages.new result }
-        ensures tells { TellsOfSearch is_read_fault result out.old out.new messages.old messages.new }
+        requires open { AreOpen (S.state sink.old) messages.old }
+        ensures ends { Ends S.stands S.stopped E.contents answerer.entry.question.now answerer.entry.form.now (sources.Pieces cutting.old) self.old.progress self.new.progress sink.old sink.new messages.old messages.new result }
+        ensures tells { TellsOfSearch is_read_fault result (S.state sink.old) (S.state sink.new) messages.old messages.new }
     {
         cutting.find_last()?;
-        self.answer_noted(answerer, cutting, out, messages)
+        self.answer_noted(answerer, cutting, sink, messages)
     }
 }

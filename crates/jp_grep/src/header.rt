@@ -1,18 +1,17 @@
 //! What stands above the rows of a table.
 
 ghost use Rattle.std.specs.Prelude.{◌≡◌, false, map, IfOk};
-ghost use Rattle.jp_devices.specs.Devices.{Writes};
 ghost use Rattle.jp_grep.specs.Faults.{IsToldOf, is_input_fault, is_report_fault, is_write_fault};
 ghost use Rattle.jp_table.specs.Held.{row_bytes};
 ghost use Rattle.jp_grep.specs.Tables.{header_row, header_text};
+ghost use Rattle.jp_grep.specs.Telling.{IsKept, PutsEnd};
 
 use crate::fault::SearchFault;
-use crate::outlet::write_bytes;
+use crate::telling::tell_row;
 use jp_form::{Form, Shown, Table};
-use jp_model::Watched;
+use jp_sink::Sink;
 use jp_table::{CellKind, TableRow};
 use std::alloc::{AllocError, Global};
-use std::io::Write;
 
 /// The bytes of the row of the names of the columns.
 fn make_header(
@@ -32,24 +31,23 @@ fn make_header(
     Ok(row)
 }
 
-/// Writes what stands above the rows, where they are those of a table: the names of the columns, after those of the cells in
-/// front.
+/// Tells what stands above the rows, where they are those of a table: the names of the columns, after those of the cells in front.
 ///
 /// # Errors
 ///
-/// `Write` if it was not written: then a beginning of it was. `Memory` if a growth was refused: then nothing was.
-pub(crate) fn write_header<W: Write>(
+/// `Write` if the sink failed. `Memory` if memory ran out: then nothing was told.
+pub(crate) fn tell_header<S: Sink>(
     alloc: Global,
     form: &Form<'_>,
     names: &[&str],
-    out: &mut Watched<W>,
+    sink: &mut S,
 ) -> Result<(), SearchFault>
-    requires { out.old.failed ≡ false }
-    ensures header { Writes W.contents out.old out.new result (header_text form.now.shown form.now (map (λ name. name.now) names.now)) }
-    ensures write_fault { IsToldOf is_write_fault result out.new.failed }
+    requires { (S.state sink.old).failed ≡ false }
+    ensures header { PutsEnd S.stands S.stopped sink.old sink.new result (header_text form.now.shown form.now (map (λ name. name.now) names.now)) }
+    ensures write_fault { IsToldOf is_write_fault result (S.state sink.new).failed }
     ensures report_fault { IsToldOf is_report_fault result false }
     ensures inner { IsToldOf is_input_fault result false }
-    ensures after { out.new.after ≡ out.old.after }
+    ensures kept { IsKept (S.state sink.old) (S.state sink.new) }
 {
     let Shown::Cells(table) = form.shown else {
         return Ok(());
@@ -57,5 +55,5 @@ pub(crate) fn write_header<W: Write>(
     let Ok(row) = make_header(alloc, table, form, names) else {
         return Err(SearchFault::Memory);
     };
-    write_bytes(row.bytes(), out)
+    tell_row(row.bytes(), sink)
 }

@@ -8,7 +8,8 @@
 //! - `Form`, `Units`, `Shown`, `Spelling`, `Table`, `Summary`: what is written of a stream, of the crate `jp_form`
 //! - `search`, `Input`, `Found`, `Counts`, `SearchFault`, `Format`: the lines, texts or elements of a stream, each answered as it
 //!   comes
-//! - `Run`, `Finished`: the streams in turn, through two buffers that are written out at the end
+//! - `Run`, `Finished`: the streams in turn, told to one sink, and at the end the exit status
+//! - `Sink`, `TextSink`, `HeldText`, `Untold`: what is told of a search, of the crate `jp_sink`
 #![tactic(auto)]
 
 mod answer;
@@ -30,7 +31,6 @@ mod line_answers;
 mod list;
 mod marks;
 mod node;
-mod outlet;
 mod progress;
 mod question;
 mod room;
@@ -40,6 +40,7 @@ mod searching;
 mod source;
 mod spelling;
 mod stream;
+mod telling;
 mod told;
 
 pub use fault::SearchFault;
@@ -49,6 +50,7 @@ pub use input::Input;
 pub use jp_form::{Form, Pieces, Shown, Spelling, Summary, Table, Units};
 pub use jp_listed::Listed;
 pub use jp_model::Framing;
+pub use jp_sink::{HeldText, Sink, TextSink, Untold};
 pub use jp_syntax::Origin;
 pub use list::read_list;
 pub use progress::Counts;

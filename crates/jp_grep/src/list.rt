@@ -16,6 +16,7 @@ use crate::searching::search;
 use jp_form::{Form, Shown, Spelling, Summary, Units};
 use jp_listed::Listed;
 use jp_model::{Framing, Watched};
+use jp_sink::HeldText;
 use std::alloc::Global;
 use std::io::{Read, Write};
 
@@ -81,7 +82,7 @@ pub fn read_list<R: Read, E: Write>(
 {
     // Each value is other than one that is asked for, as none is.
     let question = Question::new(alloc, Wanted::Others, Queries::Filter);
-    let mut texts = Watched::new(Vec::new(alloc));
+    let mut texts = HeldText::new(alloc);
     let found = match search(
         alloc,
         &question,
@@ -96,7 +97,7 @@ pub fn read_list<R: Read, E: Write>(
     if !found.is_whole() {
         return Err(SearchFault::Memory);
     }
-    match Listed::of_lines(alloc, texts.into_inner()) {
+    match Listed::of_lines(alloc, texts.text) {
         Ok(listed) => Ok((listed, found.counts)),
         Err(_) => Err(SearchFault::Memory),
     }

@@ -1,32 +1,32 @@
 //! The answer of a node: its rows, where it is selected.
 
 ghost use Rattle.std.specs.Prelude.{◌≡◌, ◌++◌, [], false, true, is_some, map, IfOk, IfSome, MatchOption, OnOk, ⊤, if◌then◌else◌};
-ghost use Rattle.jp_nodes.specs.Cursors.{node_of};
+ghost use Rattle.jp_nodes.specs.Cursors.{line_of, node_of};
 ghost use Rattle.jp_children.specs.Found.{AreOf};
 ghost use Rattle.jp_lines.specs.Views.{text_of_view, tree_of_view};
 ghost use Rattle.jp_form.specs.declared.form.Shown.TheVariants as shown;
 ghost use Rattle.jp_grep.specs.LineAnswers.{Knows};
 ghost use Rattle.jp_grep.specs.Asked.{IsOfItsLine, asked_tree};
-ghost use Rattle.jp_grep.specs.Holding.{TellsOfWriter};
 ghost use Rattle.jp_grep.specs.Matching.{is_selected, nodes_of, queries_of, selects, wants_nodes};
-ghost use Rattle.jp_grep.specs.Rows.{line_text, row, row_at_once, row_told, shown_line, value_row, whole};
+ghost use Rattle.jp_grep.specs.Rows.{line_text, row, row_at_once, selected_event, shown_line, value_event, whole};
 ghost use Rattle.jp_grep.specs.Searching.{AnswersNode, PutsFirst};
 ghost use Rattle.jp_grep.specs.Tables.{table_row};
+ghost use Rattle.jp_grep.specs.Telling.{Puts, TellsOfSink};
 
 use crate::answer::Answerer;
 use crate::asked::AskedNode;
 use crate::fault::SearchFault;
-use crate::outlet::Outlet;
 use crate::question::Wanted;
 use crate::room::NodeRoom;
 use crate::rows::{add_front, add_value};
 use crate::spelling::{Speller, append_printed};
+use crate::telling::{tell_node, tell_row};
 use jp_form::{Shown, Spelling, Table, Units};
 use jp_lines::LineView;
-use jp_model::{Framing, Watched};
+use jp_model::Framing;
 use jp_nodes::Cursor;
+use jp_sink::Sink;
 use std::alloc::AllocError;
-use std::io::Write;
 
 // How the row of a node is made.
 impl<'q> Answerer<'q> {
@@ -166,33 +166,7 @@ impl<'q> Answerer<'q> {
         Ok(true)
     }
 
-    /// Makes the told row of a line where a node of it is selected, in place of the row that was made before, and tells whether it
-    /// is selected.
-    fn make_told_row<'r>(
-        self,
-        number: u64,
-        asked: &AskedNode<'r>,
-        text: &'r [u8],
-        room: &mut NodeRoom<'r>,
-    ) -> Result<bool, AllocError>
-        requires node { IsOfItsLine asked.now }
-        requires text { text_of_view asked.now.line ≡ text.now }
-        requires knows { Knows self.question.now (text_of_view asked.now.line) room.old.answers }
-        ensures selected { IfOk result (λ selected. selected ≡ is_selected self.entry.question.now (asked_tree asked.now) (node_of asked.now.node)) }
-        ensures row { OnOk result (room.new.row.items ≡ (if is_selected self.entry.question.now (asked_tree asked.now) (node_of asked.now.node)
-            then row_told true number (row self.entry.form.now number (shown_line self.entry.question.now self.entry.form.now text.now (asked_tree asked.now) (node_of asked.now.node))) else [])) }
-        ensures knows { OnOk result (Knows self.entry.question.now (text_of_view asked.now.line) room.new.answers) }
-    {
-        room.row.clear();
-        if !self.make_line_row(true, number, asked, text, room)? {
-            return Ok(false);
-        }
-        room.tell(true, number)?;
-        Ok(true)
-    }
-
-    /// Makes the row of a node, where it is selected, unless the values are shown that the queries select, and tells whether it
-    /// is.
+    /// Makes the row of a node, where it is selected and has one row, and tells whether it is selected.
     #[inline(always)]
     fn make_row<'r>(
         self,
@@ -211,11 +185,12 @@ impl<'q> Answerer<'q> {
     {
         room.row.clear();
         match self.form.shown {
-            Shown::Nothing | Shown::Values { .. } => {
+            Shown::Nothing | Shown::Nodes | Shown::Values { .. } => {
                 self.make_line_row(false, number, asked, text, room)
             }
-            Shown::Line { .. } => self.make_line_row(true, number, asked, text, room),
-            Shown::Around => self.make_told_row(number, asked, text, room),
+            Shown::Line { .. } | Shown::Around => {
+                self.make_line_row(true, number, asked, text, room)
+            }
             Shown::Cells(table) => self.make_table_row(table, number, asked, room),
         }
     }
@@ -224,7 +199,7 @@ impl<'q> Answerer<'q> {
 // How nodes are answered.
 impl<'q> Answerer<'q> {
     /// Puts a row for each of some nodes of a line, and tells whether there was memory for all.
-    fn put_values<'r, W: Write>(
+    fn put_values<'r, S: Sink>(
         self,
         paths: bool,
         number: u64,
@@ -232,44 +207,42 @@ impl<'q> Answerer<'q> {
         nodes: &[Cursor<'r>],
         speller: &mut Speller,
         row: &mut Vec<u8>,
-        outlet: &mut Outlet,
-        out: &mut Watched<W>,
+        sink: &mut S,
     ) -> Result<bool, SearchFault>
         requires lines { AreOf text.now nodes.now }
-        requires working { out.old.failed ≡ false }
-        ensures rows { PutsFirst W.contents out.old out.new outlet.old.held.items outlet.new.held.items result (λ whole. whole) (map (value_row self.entry.form.now paths number text.now) (map node_of nodes.now)) }
-        ensures tells { TellsOfWriter result out.old out.new }
+        requires working { (S.state sink.old).failed ≡ false }
+        ensures rows { PutsFirst S.stands S.stopped sink.old sink.new result (λ whole. whole) (map (value_event self.entry.form.now paths number text.now) (map node_of nodes.now)) }
+        ensures tells { TellsOfSink result (S.state sink.old) (S.state sink.new) }
     {
         for node in nodes {
             row.clear();
             if add_value(self.form, paths, number, *node, speller, row).is_err() {
                 return Ok(false);
             }
-            outlet.put(row, out)?;
+            tell_row(row, sink)?;
         }
         Ok(true)
     }
 
     /// Puts a row for each node that the queries select, query by query, and tells whether there is one. There is no answer where
     /// memory was refused.
-    fn put_nodes<'r, W: Write>(
+    fn put_nodes<'r, S: Sink>(
         self,
         paths: bool,
         number: u64,
         asked: &AskedNode<'r>,
         text: &[u8],
         room: &mut NodeRoom<'r>,
-        outlet: &mut Outlet,
-        out: &mut Watched<W>,
+        sink: &mut S,
     ) -> Result<Option<bool>, SearchFault>
         requires node { IsOfItsLine asked.now }
         requires text { text_of_view asked.now.line ≡ text.now }
-        requires working { out.old.failed ≡ false }
+        requires working { (S.state sink.old).failed ≡ false }
         requires knows { Knows self.question.now (text_of_view asked.now.line) room.old.answers }
-        ensures rows { PutsFirst W.contents out.old out.new outlet.old.held.items outlet.new.held.items result is_some
-            (map (value_row self.entry.form.now paths number text.now) (nodes_of (queries_of self.entry.question.now) (node_of asked.now.node) (asked_tree asked.now))) }
+        ensures rows { PutsFirst S.stands S.stopped sink.old sink.new result is_some
+            (map (value_event self.entry.form.now paths number text.now) (nodes_of (queries_of self.entry.question.now) (node_of asked.now.node) (asked_tree asked.now))) }
         ensures some { IfOk result (λ answer. MatchOption answer ⊤ (λ some. some ≡ selects (queries_of self.entry.question.now) (node_of asked.now.node) (asked_tree asked.now))) }
-        ensures tells { TellsOfWriter result out.old out.new }
+        ensures tells { TellsOfSink result (S.state sink.old) (S.state sink.new) }
         ensures knows { IfOk result (λ answer. IfSome answer (λ selected. Knows self.entry.question.now (text_of_view asked.now.line) room.new.answers)) }
     {
         let mut some = false;
@@ -286,8 +259,7 @@ impl<'q> Answerer<'q> {
                 answer.frame.found(),
                 &mut room.speller,
                 &mut room.row,
-                outlet,
-                out,
+                sink,
             )?;
             if !whole {
                 return Ok(None);
@@ -298,23 +270,22 @@ impl<'q> Answerer<'q> {
 
     /// Answers a node where the values are shown that the queries select in it. The queries are asked once.
     #[inline(always)]
-    fn answer_nodes<'r, W: Write>(
+    fn answer_nodes<'r, S: Sink>(
         self,
         paths: bool,
         number: u64,
         asked: &AskedNode<'r>,
         text: &[u8],
         room: &mut NodeRoom<'r>,
-        outlet: &mut Outlet,
-        out: &mut Watched<W>,
+        sink: &mut S,
     ) -> Result<Option<bool>, SearchFault>
         requires shown { self.form.now.shown ≡ shown.Values paths }
         requires node { IsOfItsLine asked.now }
         requires text { text_of_view asked.now.line ≡ text.now }
-        requires working { out.old.failed ≡ false }
+        requires working { (S.state sink.old).failed ≡ false }
         requires knows { Knows self.question.now (text_of_view asked.now.line) room.old.answers }
-        ensures answers { AnswersNode W.contents self.entry.question.now self.entry.form.now number text.now out.old out.new outlet.old.held.items outlet.new.held.items result (asked_tree asked.now) (node_of asked.now.node) }
-        ensures tells { TellsOfWriter result out.old out.new }
+        ensures answers { AnswersNode S.stands S.stopped self.entry.question.now self.entry.form.now number text.now sink.old sink.new result (asked_tree asked.now) (node_of asked.now.node) }
+        ensures tells { TellsOfSink result (S.state sink.old) (S.state sink.new) }
         ensures knows { IfOk result (λ answer. IfSome answer (λ selected. Knows self.entry.question.now (text_of_view asked.now.line) room.new.answers)) }
     {
         match self.wants_nodes(asked, room) {
@@ -322,37 +293,58 @@ impl<'q> Answerer<'q> {
             Ok(false) => return Ok(Some(false)),
             Err(_) => return Ok(None),
         }
-        match self.put_nodes(paths, number, asked, text, room, outlet, out)? {
+        match self.put_nodes(paths, number, asked, text, room, sink)? {
             Some(some) => Ok(Some(self.question.wants_found(some))),
             None => Ok(None),
         }
     }
 
-    /// Answers a node: puts its rows, and tells whether it is selected. There is no answer where memory was refused.
-    pub(crate) fn answer_node<'r, W: Write>(
+    /// Tells a node that is selected: its one row, or the node itself, or nothing.
+    fn tell_selected<S: Sink>(
+        self,
+        number: u64,
+        node: Cursor<'_>,
+        row: &[u8],
+        sink: &mut S,
+    ) -> Result<(), SearchFault>
+        requires working { (S.state sink.old).failed ≡ false }
+        ensures events { Puts S.stands S.stopped sink.old sink.new result (selected_event self.entry.form.now.shown number (line_of node.entry) (node_of node.entry) row.now) }
+        ensures tells { TellsOfSink result (S.state sink.old) (S.state sink.new) }
+    {
+        match self.form.shown {
+            Shown::Nothing | Shown::Values { .. } => Ok(()),
+            Shown::Nodes => tell_node(number, node, sink),
+            Shown::Line { .. } | Shown::Around | Shown::Cells(_) => tell_row(row, sink),
+        }
+    }
+
+    /// Answers a node: tells its rows or the node itself, and whether it is selected. There is no answer where memory was refused.
+    pub(crate) fn answer_node<'r, S: Sink>(
         self,
         number: u64,
         asked: &AskedNode<'r>,
         text: &'r [u8],
         room: &mut NodeRoom<'r>,
-        outlet: &mut Outlet,
-        out: &mut Watched<W>,
+        sink: &mut S,
     ) -> Result<Option<bool>, SearchFault>
         requires node { IsOfItsLine asked.now }
         requires text { text_of_view asked.now.line ≡ text.now }
-        requires working { out.old.failed ≡ false }
+        requires working { (S.state sink.old).failed ≡ false }
         requires knows { Knows self.question.now (text_of_view asked.now.line) room.old.answers }
-        ensures answers { AnswersNode W.contents self.entry.question.now self.entry.form.now number text.now out.old out.new outlet.old.held.items outlet.new.held.items result (asked_tree asked.now) (node_of asked.now.node) }
-        ensures tells { TellsOfWriter result out.old out.new }
+        ensures answers { AnswersNode S.stands S.stopped self.entry.question.now self.entry.form.now number text.now sink.old sink.new result (asked_tree asked.now) (node_of asked.now.node) }
+        ensures tells { TellsOfSink result (S.state sink.old) (S.state sink.new) }
         ensures knows { IfOk result (λ answer. IfSome answer (λ selected. Knows self.entry.question.now (text_of_view asked.now.line) room.new.answers)) }
     {
         if let Shown::Values { paths } = self.form.shown {
-            return self.answer_nodes(paths, number, asked, text, room, outlet, out);
+            return self.answer_nodes(paths, number, asked, text, room, sink);
         }
         let Ok(selected) = self.make_row(number, asked, text, room) else {
             return Ok(None);
         };
-        outlet.put(&room.row, out)?;
-        Ok(Some(selected))
+        if !selected {
+            return Ok(Some(false));
+        }
+        self.tell_selected(number, asked.node, &room.row, sink)?;
+        Ok(Some(true))
     }
 }

@@ -1,16 +1,11 @@
 //! What lines lend to each other.
 
-ghost use Rattle.std.specs.Prelude.{◌≡◌, OnOk};
-ghost use Rattle.jp_grep.specs.Rows.{row_told};
-
 use crate::line_answers::LineAnswers;
 use crate::spelling::Speller;
-use jp_context::{Told, push_told};
 use jp_eval::Frame;
 use jp_model::Span;
 use jp_table::TableRow;
-use std::alloc::{AllocError, Global};
-use std::mem::swap;
+use std::alloc::Global;
 
 /// The nodes of a line that are asked, and what each of them lends to the next.
 #[derive(Drop)]
@@ -26,8 +21,6 @@ pub(crate) struct NodeRoom<'r> {
     pub(crate) answers: LineAnswers<'r>,
     pub(crate) speller: Speller,
     pub(crate) row: Vec<u8>,
-    /// That row with the head that it is told with.
-    told: Vec<u8>,
     pub(crate) cells: TableRow,
     /// A cell that is made, where it does not stand in the line, or a value in which nodes are coloured.
     pub(crate) cell: Vec<u8>,
@@ -44,29 +37,10 @@ impl<'r> Room<'r> {
                 answers: LineAnswers::new(alloc),
                 speller: Speller::new(alloc),
                 row: Vec::new(alloc),
-                told: Vec::new(alloc),
                 cells: TableRow::new(alloc),
                 cell: Vec::new(alloc),
                 marks: Vec::new(alloc),
             },
         }
-    }
-}
-
-impl<'r> NodeRoom<'r> {
-    /// Makes the row of a line a told one.
-    pub(crate) fn tell(&mut self, is_selected: bool, number: u64) -> Result<(), AllocError>
-        ensures row { OnOk result (self.new.row.items ≡ row_told is_selected number self.old.row.items) }
-        ensures answers { self.new.answers ≡ self.old.answers }
-    {
-        self.told.clear();
-        let told = Told {
-            is_selected,
-            is_first: number == 1,
-            text: &self.row,
-        };
-        push_told(told, &mut self.told)?;
-        swap(&mut self.row, &mut self.told);
-        Ok(())
     }
 }

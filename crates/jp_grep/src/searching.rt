@@ -3,12 +3,12 @@
 ghost use Rattle.std.specs.Prelude.{◌≡◌, ◌&&◌, ◌||◌, not, [], List, false, MatchResult, OnOk};
 ghost use Rattle.jp_devices.specs.Devices.{Came, GaveUpTo, Received};
 ghost use Rattle.jp_grep.specs.Faults.{IsToldOf, is_read_fault, is_report_fault, is_write_fault};
-ghost use Rattle.jp_grep.specs.Holding.{AreOpen, TellsOfBoth, TellsOfSearch};
 ghost use Rattle.jp_grep.specs.Inputs.{ReadOn};
 ghost use Rattle.jp_grep.specs.Items.{Item};
 ghost use Rattle.jp_grep.specs.Outcomes.{CameOfStream};
 ghost use Rattle.jp_grep.specs.Searching.{Advances, Ends, IsUnderWay};
 ghost use Rattle.jp_grep.specs.Stands.{HasStood};
+ghost use Rattle.jp_grep.specs.Telling.{AreOpen, IsKept, Puts, TellsOfBoth, TellsOfSearch};
 ghost use Rattle.jp_grep.specs.Watching.{SearchStopped, Searched, SearchedLines};
 
 use crate::answer::Answerer;
@@ -16,33 +16,29 @@ use crate::answering::Answering;
 use crate::fault::SearchFault;
 use crate::found::Found;
 use crate::input::Input;
-use crate::outlet::write_summary;
 use crate::question::Question;
 use crate::source::Source;
+use crate::telling::{flush_sink, tell_summary};
 use crate::told::tell_more;
 use jp_devices::flush_written;
 use jp_form::Form;
 use jp_model::Watched;
+use jp_sink::Sink;
 use std::alloc::Global;
 use std::io::{Read, Write};
 
 /// The bytes that one read asks for.
 const PIECE: usize = 65_536;
 
-/// Flushes the rows and the messages, so that whoever waits for them has them before more is read.
-fn flush_all<W: Write, E: Write>(
-    out: &mut Watched<W>,
-    messages: &mut Watched<E>,
-) -> Result<(), SearchFault>
-    requires open { AreOpen out.old messages.old }
-    ensures rows { Received W.contents out.old out.new [] }
+/// Has the rows and the messages handed on, so that whoever waits for them has them before more is read.
+fn flush_all<S: Sink, E: Write>(sink: &mut S, messages: &mut Watched<E>) -> Result<(), SearchFault>
+    requires open { AreOpen (S.state sink.old) messages.old }
+    ensures rows { Puts S.stands S.stopped sink.old sink.new result [] }
     ensures messages { Received E.contents messages.old messages.new [] }
-    ensures flushed { OnOk result ((out.new.unflushed ≡ false) × (messages.new.unflushed ≡ false)) }
-    ensures tells { TellsOfBoth result out.old out.new messages.old messages.new }
+    ensures flushed { OnOk result (((S.state sink.new).unflushed ≡ false) × (messages.new.unflushed ≡ false)) }
+    ensures tells { TellsOfBoth result (S.state sink.old) (S.state sink.new) messages.old messages.new }
 {
-    if flush_written(out).is_err() {
-        return Err(SearchFault::Write);
-    }
+    flush_sink(sink)?;
     if flush_written(messages).is_err() {
         return Err(SearchFault::Report);
     }
@@ -58,46 +54,48 @@ struct Searcher {
 
 impl Searcher {
     /// Takes in the bytes that came, and answers what ends among them, unless the stream is refused by its first bytes.
-    fn answer_read<W: Write, E: Write>(
+    fn answer_read<S: Sink, E: Write>(
         &mut self,
         answerer: Answerer<'_>,
         bytes: &[u8],
-        out: &mut Watched<W>,
+        sink: &mut S,
         messages: &mut Watched<E>,
     ) -> Result<(), SearchFault>
         requires stands { HasStood answerer.form.now.units self.old.source }
         requires under_way { IsUnderWay answerer.form.now self.old.answering.progress }
-        requires open { AreOpen out.old messages.old }
-        ensures advances { Advances W.contents E.contents answerer.entry.question.now answerer.entry.form.now self.old.source self.new.source self.old.answering.progress self.new.answering.progress out.old out.new messages.old messages.new result bytes.now }
-        ensures tells { TellsOfSearch is_read_fault result out.old out.new messages.old messages.new }
+        requires open { AreOpen (S.state sink.old) messages.old }
+        ensures advances { Advances S.stands S.stopped E.contents answerer.entry.question.now answerer.entry.form.now self.old.source self.new.source self.old.answering.progress self.new.answering.progress sink.old sink.new messages.old messages.new result bytes.now }
+        ensures tells { TellsOfSearch is_read_fault result (S.state sink.old) (S.state sink.new) messages.old messages.new }
     {
         let answering = &mut self.answering;
         match &mut self.source {
-            Source::Lines(stream) => answering.answer_lines(answerer, stream, bytes, out, messages),
+            Source::Lines(stream) => answering.answer_lines(
+                answerer, stream, bytes, sink, messages,
+            ),
             Source::Pieces(cutting) => {
-                answering.answer_pieces(answerer, cutting, bytes, out, messages)
+                answering.answer_pieces(answerer, cutting, bytes, sink, messages)
             }
         }
     }
 
     /// Answers what the end of the stream leaves, unless the stream is refused as a whole.
-    fn answer_rest<W: Write, E: Write>(
+    fn answer_rest<S: Sink, E: Write>(
         &mut self,
         answerer: Answerer<'_>,
-        out: &mut Watched<W>,
+        sink: &mut S,
         messages: &mut Watched<E>,
     ) -> Result<(), SearchFault>
         requires stands { HasStood answerer.form.now.units self.old.source }
         requires under_way { IsUnderWay answerer.form.now self.old.answering.progress }
-        requires open { AreOpen out.old messages.old }
-        ensures ends { Ends W.contents E.contents answerer.entry.question.now answerer.entry.form.now self.old.source self.old.answering.progress self.new.answering.progress out.old out.new messages.old messages.new result }
-        ensures tells { TellsOfSearch is_read_fault result out.old out.new messages.old messages.new }
+        requires open { AreOpen (S.state sink.old) messages.old }
+        ensures ends { Ends S.stands S.stopped E.contents answerer.entry.question.now answerer.entry.form.now self.old.source self.old.answering.progress self.new.answering.progress sink.old sink.new messages.old messages.new result }
+        ensures tells { TellsOfSearch is_read_fault result (S.state sink.old) (S.state sink.new) messages.old messages.new }
     {
         let answering = &mut self.answering;
         match &mut self.source {
-            Source::Lines(stream) => answering.answer_last_lines(answerer, stream, out, messages),
+            Source::Lines(stream) => answering.answer_last_lines(answerer, stream, sink, messages),
             Source::Pieces(cutting) => {
-                answering.answer_last_pieces(answerer, cutting, out, messages)
+                answering.answer_last_pieces(answerer, cutting, sink, messages)
             }
         }
     }
@@ -105,28 +103,29 @@ impl Searcher {
 
 /// Answers the lines of a stream, piece by piece, up to its end, to the last line that is wanted and those that are passed after it,
 /// or to the first one that there is no memory or no number for.
-fn search_lines<R: Read, W: Write, E: Write>(
+fn search_lines<R: Read, S: Sink, E: Write>(
     answerer: Answerer<'_>,
     input: &mut Input<R>,
-    out: &mut Watched<W>,
+    sink: &mut S,
     messages: &mut Watched<E>,
 ) -> Result<Found, SearchFault>
     requires reads { input.old.reader.failed ≡ false }
     requires unended { input.old.reader.ended ≡ false }
-    requires writes { out.old.failed ≡ false }
+    requires writes { (S.state sink.old).failed ≡ false }
     requires reports { messages.old.failed ≡ false }
     ensures output { (came : Came) × (outcomes : List Item) × GaveUpTo R.remaining input.old.reader input.new.reader came
         × CameOfStream answerer.entry.form.now came outcomes × ReadOn answerer.entry.question.now answerer.entry.form.now input.old input.new came.bytes outcomes × MatchResult result
-        (λ found. SearchedLines W.contents E.contents answerer.entry.question.now answerer.entry.form.now out.old out.new messages.old messages.new came outcomes found)
-        (λ fault. SearchStopped W.contents E.contents answerer.entry.question.now answerer.entry.form.now out.old out.new messages.old messages.new fault came outcomes) }
+        (λ found. SearchedLines S.stands S.stopped E.contents answerer.entry.question.now answerer.entry.form.now sink.old sink.new messages.old messages.new came outcomes found)
+        (λ fault. SearchStopped S.stands S.stopped E.contents answerer.entry.question.now answerer.entry.form.now sink.old sink.new messages.old messages.new fault came outcomes) }
     ensures read_fault { IsToldOf is_read_fault result (input.new.reader.failed && not messages.new.failed) }
-    ensures write_fault { IsToldOf is_write_fault result out.new.failed }
+    ensures write_fault { IsToldOf is_write_fault result (S.state sink.new).failed }
     ensures report_fault { IsToldOf is_report_fault result messages.new.failed }
     ensures after { input.new.reader.after ≡ input.old.reader.after }
-    ensures out_after { out.new.after ≡ out.old.after }
+    ensures kept { IsKept (S.state sink.old) (S.state sink.new) }
     ensures messages_after { messages.new.after ≡ messages.old.after }
     ensures early { input.new.reader.early ≡ input.old.reader.early }
 {
+    sink.gap();
     let mut searcher = Searcher {
         source: Source::new(answerer.alloc, answerer.form.units),
         answering: Answering::new(answerer.alloc),
@@ -137,18 +136,18 @@ fn search_lines<R: Read, W: Write, E: Write>(
         if progress.is_done(*answerer.form) {
             return Ok(progress.found());
         }
-        flush_all(out, messages)?;
-        let Ok(count) = input.read_after(out, &mut buffer) else {
+        flush_all(sink, messages)?;
+        let Ok(count) = input.read_after(sink, &mut buffer) else {
             tell_more(answerer.form, progress.counts.refused, messages)?;
             return Err(SearchFault::Read);
         };
         if count == 0 {
-            if let Err(fault) = searcher.answer_rest(answerer, out, messages) {
+            if let Err(fault) = searcher.answer_rest(answerer, sink, messages) {
                 return searcher.answering.progress.stop(fault);
             }
             return Ok(searcher.answering.progress.found());
         }
-        if let Err(fault) = searcher.answer_read(answerer, &buffer[..count], out, messages) {
+        if let Err(fault) = searcher.answer_read(answerer, &buffer[..count], sink, messages) {
             return searcher.answering.progress.stop(fault);
         }
     }
@@ -173,32 +172,32 @@ fn search_lines<R: Read, W: Write, E: Write>(
 /// stream begins with the mark of another format, and `Framing` if bytes other than white space come before the first separator
 /// of a sequence: nothing is written then. `Write` and `Report` if a row or a message was not written: then a beginning of the
 /// answer was.
-pub fn search<R: Read, W: Write, E: Write>(
+pub fn search<R: Read, S: Sink, E: Write>(
     alloc: Global,
     question: &Question,
     form: &Form<'_>,
     input: &mut Input<R>,
-    out: &mut Watched<W>,
+    sink: &mut S,
     messages: &mut Watched<E>,
 ) -> Result<Found, SearchFault>
     requires reads { input.old.reader.failed ≡ false }
     requires unended { input.old.reader.ended ≡ false }
-    requires writes { out.old.failed ≡ false }
+    requires writes { (S.state sink.old).failed ≡ false }
     requires reports { messages.old.failed ≡ false }
     // The reader gave some bytes, the first of their lines were answered or given up, and no read followed where no more were
     // wanted. At Ok these are all lines up to the last one that is wanted, or those in front of the one that `unread` tells; else
     // what `SearchStopped` says.
     ensures output { (came : Came) × (outcomes : List Item) × GaveUpTo R.remaining input.old.reader input.new.reader came
         × CameOfStream form.now came outcomes × ReadOn question.now form.now input.old input.new came.bytes outcomes × MatchResult result
-        (λ found. Searched W.contents E.contents question.now form.now out.old out.new messages.old messages.new came outcomes found)
-        (λ fault. SearchStopped W.contents E.contents question.now form.now out.old out.new messages.old messages.new fault came outcomes) }
+        (λ found. Searched S.stands S.stopped E.contents question.now form.now sink.old sink.new messages.old messages.new came outcomes found)
+        (λ fault. SearchStopped S.stands S.stopped E.contents question.now form.now sink.old sink.new messages.old messages.new fault came outcomes) }
     // Each device's fault is answered exactly where that device failed, and that of a message in place of that of a read.
     ensures read_fault { IsToldOf is_read_fault result (input.new.reader.failed && not messages.new.failed) }
-    ensures write_fault { IsToldOf is_write_fault result out.new.failed }
+    ensures write_fault { IsToldOf is_write_fault result (S.state sink.new).failed }
     ensures report_fault { IsToldOf is_report_fault result messages.new.failed }
     // No call follows one that failed, and no read one that answered 0.
     ensures after { input.new.reader.after ≡ input.old.reader.after }
-    ensures out_after { out.new.after ≡ out.old.after }
+    ensures kept { IsKept (S.state sink.old) (S.state sink.new) }
     ensures messages_after { messages.new.after ≡ messages.old.after }
     // No read comes while rows are unflushed.
     ensures early { input.new.reader.early ≡ input.old.reader.early }
@@ -208,8 +207,8 @@ pub fn search<R: Read, W: Write, E: Write>(
         question,
         form,
     };
-    let found = search_lines(answerer, input, out, messages)?;
+    let found = search_lines(answerer, input, sink, messages)?;
     tell_more(form, found.counts.refused, messages)?;
-    write_summary(form, found.counts.selected, found.is_whole(), out)?;
+    tell_summary(form, found.counts.selected, found.is_whole(), sink)?;
     Ok(found)
 }

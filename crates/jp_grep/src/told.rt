@@ -1,17 +1,17 @@
 //! The messages about the lines of a stream. No memory is asked for it.
 
-ghost use Rattle.std.specs.Prelude.{◌≡◌, ◌&&◌, false, is_err, codes, ltb, not};
+ghost use Rattle.std.specs.Prelude.{◌≡◌, ◌&&◌, [], OnOk, false, is_err, codes, ltb, not};
 ghost use Rattle.jp_devices.specs.Devices.{Writes};
 ghost use Rattle.jp_grep.specs.Faults.{report_of};
-ghost use Rattle.jp_grep.specs.Holding.{TellsOfMessages, WritesPart, WritesText};
 ghost use Rattle.jp_grep.specs.Rows.{from_line_text, line_message, status_message};
+ghost use Rattle.jp_grep.specs.Telling.{TellsOfMessages, WritesPart, WritesText};
 ghost use Rattle.jp_grep.specs.Told.{more_message, more_refused, more_words};
 ghost use Rattle.jp_model.specs.Json.Status.{refused};
 
 use crate::fault::SearchFault;
-use crate::outlet::then_write;
 use crate::progress::Progress;
 use itoa::Buffer;
+use jp_devices::flush_written;
 use jp_form::Form;
 use jp_model::{LineFault, Watched};
 use jp_rows::{WriteFault, write_whole};
@@ -27,6 +27,50 @@ fn told(written: Result<(), WriteFault>) -> Result<(), SearchFault>
     match written {
         Ok(()) => Ok(()),
         Err(_) => Err(SearchFault::Report),
+    }
+}
+
+/// Writes a part after those before it, unless one of these was not written.
+fn then_write<E: Write>(
+    before: Result<(), WriteFault>,
+    part: &[u8],
+    messages: &mut Watched<E>,
+) -> Result<(), WriteFault>
+    requires working { messages.old.failed ≡ is_err before }
+    ensures { WritesPart E.contents messages.old messages.new before result part.now }
+{
+    match before {
+        Ok(()) => write_whole(part, messages),
+        Err(fault) => Err(fault),
+    }
+}
+
+/// Has the messages so far handed on.
+fn flush_messages<E: Write>(messages: &mut Watched<E>) -> Result<(), WriteFault>
+    requires working { messages.old.failed ≡ false }
+    ensures text { Writes E.contents messages.old messages.new result [] }
+    ensures flushed { OnOk result (messages.new.unflushed ≡ false) }
+    ensures fault { messages.new.failed ≡ is_err result }
+    ensures after { messages.new.after ≡ messages.old.after }
+{
+    match flush_written(messages) {
+        Ok(()) => Ok(()),
+        Err(_) => Err(WriteFault),
+    }
+}
+
+/// Hands on a message, unless it was not written: so it stands before the rows of the lines after it.
+fn then_flush<E: Write>(
+    before: Result<(), WriteFault>,
+    messages: &mut Watched<E>,
+) -> Result<(), WriteFault>
+    requires working { messages.old.failed ≡ is_err before }
+    ensures text { WritesPart E.contents messages.old messages.new before result [] }
+    ensures flushed { OnOk result (messages.new.unflushed ≡ false) }
+{
+    match before {
+        Ok(()) => flush_messages(messages),
+        Err(fault) => Err(fault),
     }
 }
 
@@ -47,7 +91,8 @@ fn write_from_line<E: Write>(
     then_write(written, digits.format(line).as_bytes(), messages)
 }
 
-/// Writes what is said of a line of a stream: its number, from 1, and where it is told that of the line in which it begins.
+/// Writes what is said of a line of a stream, and hands it on: its number, from 1, and where it is told that of the line in which
+/// it begins.
 fn write_line_message<E: Write>(
     name: &str,
     number: u64,
@@ -56,7 +101,8 @@ fn write_line_message<E: Write>(
     messages: &mut Watched<E>,
 ) -> Result<(), WriteFault>
     requires working { messages.old.failed ≡ false }
-    ensures { WritesText E.contents messages.old messages.new result (line_message name.now number said.now from_line) }
+    ensures text { WritesText E.contents messages.old messages.new result (line_message name.now number said.now from_line) }
+    ensures flushed { OnOk result (messages.new.unflushed ≡ false) }
 {
     let mut digits = Buffer::new();
     let written = write_whole(b"jpgrep: ", messages);
@@ -66,7 +112,8 @@ fn write_line_message<E: Write>(
     let written = then_write(written, b": ", messages);
     let written = then_write(written, said.as_bytes(), messages);
     let written = write_from_line(written, from_line, messages);
-    then_write(written, b"\n", messages)
+    let written = then_write(written, b"\n", messages);
+    then_flush(written, messages)
 }
 
 /// Tells of a refused line, where messages are wanted and few were told.

@@ -257,7 +257,7 @@ impl Layout {
 }
 
 /// How many turns come in front of the last ones: those are the further ones, or any number of them with one of the least.
-fn turns_in_front(least: u32, further: Option<u32>) -> u32
+pub(crate) fn turns_in_front(least: u32, further: Option<u32>) -> u32
     ensures { result ≡ turns_in_front least further }
 {
     if further.is_some() {

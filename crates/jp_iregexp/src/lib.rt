@@ -7,12 +7,15 @@
 
 mod automaton;
 mod brackets;
+mod branches;
 mod class;
 mod codes;
 mod compiled;
 mod counts;
+mod entries;
 mod escapes;
 mod even;
+mod graph;
 mod group;
 mod groups;
 mod items;
@@ -33,6 +36,8 @@ mod repeats;
 mod runs;
 mod tables;
 mod token;
+mod waiting;
+mod walk;
 
 pub use pattern::Pattern;
 

@@ -30,7 +30,7 @@ impl Pattern {
         match read_pattern(alloc, scalars.as_slice())? {
             None => Ok(None),
             Some(parsed) => {
-                let compiled = Compiled::new(alloc, parsed)?;
+                let compiled = Compiled::new(alloc, parsed, scalars.len())?;
                 Ok(Some(Pattern { compiled }))
             }
         }
@@ -72,6 +72,9 @@ fn scalars_of(alloc: Global, text: &str) -> Result<Vec<char>, AllocError>
 fn matches_by_tree(alloc: Global, compiled: &Compiled, text: &str) -> Result<bool, AllocError>
     ensures { IfOk result (λ answer. answer ≡ is_in (tree_of compiled.now.root) (chars text.now)) }
 {
+    if let Some(graph) = &compiled.graph {
+        return graph.accepts(alloc, text);
+    }
     let scalars = scalars_of(alloc, text)?;
     let scalars = scalars.as_slice();
     let starts = PositionSet::one(alloc, 0)?;
@@ -84,6 +87,9 @@ fn matches_by_tree(alloc: Global, compiled: &Compiled, text: &str) -> Result<boo
 fn occurs_by_tree(alloc: Global, compiled: &Compiled, text: &str) -> Result<bool, AllocError>
     ensures { IfOk result (λ answer. answer ≡ occurs_in (tree_of compiled.now.root) (chars text.now)) }
 {
+    if let Some(graph) = &compiled.graph {
+        return graph.finds(alloc, text);
+    }
     let scalars = scalars_of(alloc, text)?;
     let scalars = scalars.as_slice();
     let starts = PositionSet::all(alloc, scalars.len())?;

@@ -44,19 +44,23 @@ mask_behind (suc k) (b ∷ ms) =
     let e : 1 + k ≡ suc k = omega arith in
     ap (λ n. mask_l (b ∷ ms) / 2 ^ n) (sym e) ∙ (sym (shr-shr (mask_l (b ∷ ms)) 1 k) ∙ (ap (λ n. n / 2 ^ k) (half_mask b ms) ∙ mask_behind k ms))
 
--- the same of a mask of the last bytes
+-- the same of a mask of bytes
+pub mask_later : (p : ℕ → Bool) (bytes : List ℕ) (at n k mask : ℕ) → k ≤ n → mask ≡ mask_l (map p (chunk at n bytes)) → mask / 2 ^ k ≡ mask_l (map p (chunk (at + k) (n - k) bytes))
+mask_later p bytes at n k mask few e =
+    let whole : k + (n - k) ≡ n = omega (arith, few) in
+    ap (λ m. m / 2 ^ k) e
+    ∙ (mask_behind k (map p (chunk at n bytes))
+    ∙ (ap mask_l (drop-map p k (chunk at n bytes))
+    ∙ ap (λ xs. mask_l (map p xs)) (ap (λ m. drop k (take m (drop at bytes))) (sym whole) ∙ (drop-take k (n - k) (drop at bytes) ∙ ap (take (n - k)) (drop-drop k at bytes)))))
+
+-- and of a mask of the last bytes
 pub mask_of_rest : (p : ℕ → Bool) (bytes : List ℕ) (n from mask : ℕ) → n ≤ length bytes → from ≤ length bytes → length bytes ≤ from + n → mask ≡ mask_l (map p (chunk (length bytes - n) n bytes)) →
     mask / 2 ^ (from - (length bytes - n)) ≡ mask_l (map p (chunk from (length bytes - from) bytes))
 mask_of_rest p bytes n from mask block within rest e =
     let k = from - (length bytes - n) in
     let there : (length bytes - n) + k ≡ from = omega (arith, block, within, rest) in
     let left : n - k ≡ length bytes - from = omega (arith, block, within, rest) in
-    let whole : k + (n - k) ≡ n = omega (arith, block, within, rest) in
-    ap (λ m. m / 2 ^ k) e
-    ∙ (mask_behind k (map p (chunk (length bytes - n) n bytes))
-    ∙ (ap mask_l (drop-map p k (chunk (length bytes - n) n bytes))
-    ∙ ap (λ xs. mask_l (map p xs))
-    (ap (λ m. drop k (take m (drop (length bytes - n) bytes))) (sym whole) ∙ (drop-take k (n - k) (drop (length bytes - n) bytes) ∙ (ap (take (n - k)) (drop-drop k (length bytes - n) bytes) ∙ ap₂ (λ a b. take a (drop b bytes)) left there)))))
+    mask_later p bytes (length bytes - n) n k mask (omega (arith, block, within, rest)) e ∙ ap₂ (λ a b. mask_l (map p (chunk b a bytes))) left there
 
 -- ---- where the first byte is
 
@@ -86,19 +90,28 @@ prefix_none p (x ∷ xs) e = go (p x) e (prefix_none p xs)
     go true e later = absurd (omega (arith, e))
     go false e later = let z = later (omega (arith, e)) in omega (arith, z)
 
+lowest_run : (p : ℕ → Bool) (bytes : List ℕ) (at n mask : ℕ) → n ≤ 64 → at + n ≤ length bytes → mask ≡ mask_l (map p (chunk at n bytes)) → (mask ≡ 0 → ⊥) → count_trailing_zeros 64 mask ≡ prefix_len (λ x. not (p x)) (chunk at n bytes)
+lowest_run p bytes at n mask few inside e some =
+    sym (cond-false _ _ _ (ne_eqb _ _ some)) ∙ (ap (λ m. cond (eqb m 0) n (count_trailing_zeros 64 m)) e ∙ first_set_mask_l p (chunk at n bytes) n (length-chunk at n bytes inside) few)
+
+-- the lowest bit of a mask is that of one of the bytes
+pub lowest_inside : (p : ℕ → Bool) (bytes : List ℕ) (at n mask : ℕ) → n ≤ 64 → at + n ≤ length bytes → mask ≡ mask_l (map p (chunk at n bytes)) → (mask ≡ 0 → ⊥) → count_trailing_zeros 64 mask < n
+lowest_inside p bytes at n mask few inside e some =
+    let i : ℕ = count_trailing_zeros 64 mask in
+    let run = lowest_run p bytes at n mask few inside e some in
+    let most = run_in_chunk_le p bytes at n i 0 inside run in
+    elim (cases_lt i n) [
+      | inl lt ↦ lt
+      | inr ge ↦ (let whole : i ≡ n = omega (arith, ge, most) in absurd (some (e ∙ prefix_none p (chunk at n bytes) (sym run ∙ (whole ∙ sym (length-chunk at n bytes inside))))))
+    ]
+
 -- else it is where the lowest bit is set
 pub first_of_mask : (p : ℕ → Bool) (bytes : List ℕ) (from at n mask : ℕ) → from ≤ at → n ≤ 64 → at + n ≤ length bytes → ((k : ℕ) → from ≤ k → k < at → p (get_or bytes k 0) ≡ false) → mask ≡ mask_l (map p (chunk at n bytes)) → (mask ≡ 0 → ⊥) →
     IsFirst p bytes from (at + count_trailing_zeros 64 mask)
 first_of_mask p bytes from at n mask order few inside before e some =
-    let long = length-chunk at n bytes inside in
     let i : ℕ = count_trailing_zeros 64 mask in
-    let run : i ≡ prefix_len (λ x. not (p x)) (chunk at n bytes) =
-    sym (cond-false _ _ _ (ne_eqb _ _ some)) ∙ (ap (λ m. cond (eqb m 0) n (count_trailing_zeros 64 m)) e ∙ first_set_mask_l p (chunk at n bytes) n long few) in
+    let run = lowest_run p bytes at n mask few inside e some in
     let most = run_in_chunk_le p bytes at n i 0 inside run in
-    let less : i < n = elim (cases_lt i n) [
-      | inl lt ↦ lt
-      | inr ge ↦ (let whole : i ≡ n = omega (arith, ge, most) in absurd (some (e ∙ prefix_none p (chunk at n bytes) (sym run ∙ (whole ∙ sym long)))))
-    ] in
     record {
       order = omega (arith, order);
       within = omega (arith, most, inside);
@@ -107,7 +120,7 @@ first_of_mask p bytes from at n mask order few inside before e some =
             | inl lt ↦ before k low lt
             | inr ge ↦ run_in_chunk_fails p bytes at n i 0 inside run k ge high
           ];
-      stops = λ l. run_in_chunk_stops p bytes at n i 0 inside run less;
+      stops = λ l. run_in_chunk_stops p bytes at n i 0 inside run (lowest_inside p bytes at n mask few inside e some);
     }
 
 -- none is before the first from a later position on

@@ -1,5 +1,5 @@
 //! The first special byte of a string, and equality of bytes.
-ghost use Rattle.std.specs.Prelude.{◌≡◌, ◌↔◌, ℕ, ◌+◌, ◌<◌, ◌≤◌, IsTrue, false, map, length, slice_index};
+ghost use Rattle.std.specs.Prelude.{◌≡◌, ◌↔◌, ℕ, ◌+◌, ◌<◌, ◌≤◌, IsTrue, true, false, map, length, slice_index};
 ghost use Rattle.std.specs.Simd.Lanes.{mask_l, chunk};
 ghost use Rattle.jp_lanes.specs.Search.{HasSpecial, IsFirstSpecial, is_special as is_special_byte};
 
@@ -64,10 +64,30 @@ pub fn first_special(bytes: &[u8], from: usize) -> usize
     first_special_of_few(bytes, at)
 }
 
-/// The first special byte where few bytes are left: eight at once, then four, and then byte by byte. It is not inlined, so that
-/// the search of longer runs is.
+/// The first special byte where fewer bytes are left than are looked at together: the last ones are, with some before them. It
+/// is not inlined, so that the search of longer runs is.
 #[inline(never)]
 fn first_special_of_few(bytes: &[u8], from: usize) -> usize
+    requires within { from ≤ length bytes.now }
+    requires few { length bytes.now < from + 16 }
+    ensures { IsFirstSpecial bytes.now from result }
+{
+    if bytes.len() < QUARTER {
+        return first_special_of_fewer(bytes, from);
+    }
+    if from == bytes.len() {
+        return from;
+    }
+    let last = bytes.len() - QUARTER;
+    let special = special_lanes(Simd::<u8, QUARTER>::from_slice(&bytes[last..])) >> (from - last);
+    if special == 0 {
+        return bytes.len();
+    }
+    from + special.trailing_zeros() as usize
+}
+
+/// The first special byte where there are few bytes: eight at once, then four, and then byte by byte.
+fn first_special_of_fewer(bytes: &[u8], from: usize) -> usize
     requires { from ≤ length bytes.now }
     ensures { IsFirstSpecial bytes.now from result }
 {
@@ -155,6 +175,45 @@ fn equal_ends<const N: usize>(a: &[u8], b: &[u8]) -> bool
     ensures { IsTrue result ↔ (a.now ≡ b.now) }
 {
     equal_blocks::<N>(a, b, 0) && equal_blocks::<N>(a, b, a.len() - N)
+}
+
+/// Whether two runs of one length differ in the first N bytes, or in the last N.
+#[inline(always)]
+fn end_blocks_differ<const N: usize>(a: &[u8], b: &[u8]) -> bool
+    requires few { N ≤ 64 }
+    requires size { length a.now ≡ length b.now }
+    requires least { N ≤ length a.now }
+    ensures { result ≡ true → a.now ≡ b.now → ⊥ }
+{
+    if !equal_blocks::<N>(a, b, 0) {
+        return true;
+    }
+    !equal_blocks::<N>(a, b, a.len() - N)
+}
+
+/// Whether two runs of bytes are known to differ: in their lengths, or in some of their first or last bytes. That is told by one
+/// or two looks, however long they are, and not of runs that differ elsewhere alone.
+#[inline(always)]
+pub fn ends_differ(a: &[u8], b: &[u8]) -> bool
+    ensures { result ≡ true → a.now ≡ b.now → ⊥ }
+{
+    if a.len() != b.len() {
+        return true;
+    }
+    if a.len() >= EIGHTH {
+        return end_blocks_differ::<EIGHTH>(a, b);
+    }
+    if a.len() >= SIXTEENTH {
+        return end_blocks_differ::<SIXTEENTH>(a, b);
+    }
+    if a.is_empty() {
+        return false;
+    }
+    let last = a.len() - 1;
+    if a[0] != b[0] {
+        return true;
+    }
+    a[last] != b[last]
 }
 
 /// Whether two runs of one length are equal, where they are short: most names of a line are.

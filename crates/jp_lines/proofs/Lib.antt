@@ -2,3 +2,4 @@
 pub mod Parts
 pub mod LinesRead
 pub mod Sizes
+pub mod Blank

@@ -124,7 +124,7 @@ pub(crate) fn read_piece(
     lines.reserve(count)?;
     for index in 0..count {
         let line = read_line(builder, framing, bytes, piece, marks, index, tapes)?;
-        lines.push(line)?;
+        lines.push_reserved(line);
     }
     Ok(())
 }

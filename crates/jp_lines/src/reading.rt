@@ -2,6 +2,7 @@
 
 ghost use Rattle.std.specs.Prelude.{◌≡◌, ◌↔◌, ◌<◌, ◌^◌, ◌++◌, ℕ, List, length, IfOk, IsTrue, IsUtf8};
 ghost use Rattle.jp_model.specs.Json.Marks.{marks as marks_of};
+ghost use Rattle.jp_model.specs.Lines.{is_blank as is_blank_line};
 ghost use Rattle.jp_lines.specs.Stored.{IsTold, IsTapeAmong, IsRead, stored_text};
 
 use crate::Status;
@@ -16,6 +17,15 @@ use std::alloc::{AllocError, Global};
 pub(crate) struct Judged {
     pub(crate) status: Status,
     pub(crate) nodes: u32,
+}
+
+/// Whether a line is blank. One with a mark is not, and few lines have none.
+#[inline(always)]
+fn is_empty_line(text: &[u8], marks: &[u32]) -> bool
+    requires { marks.now ≡ marks_of text.now }
+    ensures { result ≡ is_blank_line text.now }
+{
+    marks.is_empty() && is_blank(text)
 }
 
 /// What a line is. Its tape, where it has one, is appended to others. The builder lends its memory.
@@ -33,7 +43,7 @@ pub(crate) fn judge(
     ensures judged { IfOk result (λ judged. IsTold framing judged.status text.now × IsTapeAmong judged.status tapes.new.items (length tapes.old.items) judged.nodes text.now) }
     ensures more { (words : List ℕ) × (tapes.new.items ≡ tapes.old.items ++ words) }
 {
-    if is_blank(text) {
+    if is_empty_line(text, marks) {
         return Ok(Judged {
             status: Status::Blank,
             nodes: 0,

@@ -5,7 +5,7 @@ mod Restart
 mod Escapes
 mod BlockWords
 mod LineLaw
-mod Positions
+pub mod Positions
 mod Pieces
 mod LineMore
 mod Along

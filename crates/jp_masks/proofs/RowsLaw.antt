@@ -54,11 +54,10 @@ more_row rows n start end from to l w h =
     ∙ both_true (rows_within rows n) (rows_within (row ∷ []) n) h
     (both_true (nat_le from to && nat_le to n) true (both_true (nat_le from to) (nat_le to n) (le_true from to l) (le_true to n w)) refl)
 
--- a row that comes, or does not
-pub rows_pushed : (b : Bool) (rows after : List Row) (n start end from to : ℕ) → after ≡ cond b (rows ++ (let row : Row = record { start = start; end = end; positions_start = from; positions_end = to } in row) ∷ []) rows
+-- a row that comes behind the same rows
+pub rows_pushed : (rows same after : List Row) (n start end from to : ℕ) → same ≡ rows → after ≡ same ++ (let row : Row = record { start = start; end = end; positions_start = from; positions_end = to } in row) ∷ []
     → from ≤ to → to ≤ n → rows_within rows n ≡ true → rows_within after n ≡ true
-rows_pushed true rows after n start end from to e l w h = ap (λ r. rows_within r n) e ∙ more_row rows n start end from to l w h
-rows_pushed false rows after n start end from to e l w h = ap (λ r. rows_within r n) e ∙ h
+rows_pushed rows same after n start end from to s e l w h = ap (λ r. rows_within r n) e ∙ more_row same n start end from to l w (ap (λ r. rows_within r n) s ∙ h)
 
 -- positions that come, or do not
 pub positions_came : {T E : Type 0} (r : Result T E) (positions more after : List ℕ) → OnOk r (after ≡ positions ++ more) → OnErr r (after ≡ positions) → length positions ≤ length after

@@ -1,6 +1,6 @@
 //! The marks of all lines of a collection.
 
-ghost use Rattle.std.specs.Prelude.{◌≡◌, ℕ, ◌+◌, ◌-◌, ◌^◌, ◌<◌, ◌≤◌, ◌++◌, [], true, map, take, bit_or, length, slice_get, slice_range, Some, IsTrue, ◌↔◌, IfOk, OnOk, OnErr};
+ghost use Rattle.std.specs.Prelude.{◌≡◌, ℕ, ◌+◌, ◌-◌, ◌^◌, ◌<◌, ◌≤◌, ◌++◌, [], true, map, take, bit_or, length, slice_get, slice_range, vec_len, vec_capacity, Some, IsTrue, ◌↔◌, IfOk, OnOk, OnErr};
 ghost use Rattle.std.specs.Str.{IsUtf8};
 ghost use Rattle.jp_model.specs.Json.Places.{bytes_between};
 ghost use Rattle.jp_masks.specs.Rows.{rows_within};
@@ -49,6 +49,18 @@ fn part(items: &[u32], from: usize, to: usize) -> &[u32]
     ensures { result.now ≡ slice_range items.now from to }
 {
     &items[from..to]
+}
+
+/// Makes room for one more row. Few lines find none.
+#[inline(always)]
+fn make_row_room(rows: &mut Vec<Row>) -> Result<(), AllocError>
+    ensures same { rows.new.items ≡ rows.old.items }
+    ensures room { OnOk result (vec_len rows.new < vec_capacity rows.new) }
+{
+    if rows.len() >= rows.capacity() {
+        rows.reserve(1)?;
+    }
+    Ok(())
 }
 
 impl Marks {
@@ -185,7 +197,8 @@ impl Marks {
             positions_start: self.positions_before,
             positions_end: self.positions.len(),
         };
-        self.rows.push(row)?;
+        make_row_room(&mut self.rows)?;
+        self.rows.push_reserved(row);
         Ok(())
     }
 

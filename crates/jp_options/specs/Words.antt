@@ -85,14 +85,6 @@ has_columns o = if o.tally then has_several o else not o.survey && (o.tabs || o.
 abbrev pub tally_rows : Options → Shown
 tally_rows o = if has_several o then shown.Cells tables.Canonical else shown.Values false
 
--- the paths of nodes are told that are asked one by one
-abbrev pub surveys_nodes : Options → Bool
-surveys_nodes o = o.survey && asks_each o
-
--- what the paths are told of: lines, or such nodes with their paths
-abbrev pub survey_rows : Options → Shown
-survey_rows o = if surveys_nodes o then shown.Values true else shown.Line false
-
 -- how the cells of what is counted are shown: as in a table, or in canonical form; `-r` shows them as `--tsv` does
 abbrev pub counted_table : Options → Table
 counted_table o = if o.commas then tables.Commas else if o.tabs || o.raw then tables.Tabs else tables.Canonical
@@ -129,7 +121,7 @@ asked_rows o =
     if first_decides o || o.counted then shown.Nothing
     else if asks_context o then shown.Around
     else if o.tally then tally_rows o
-    else if o.survey then survey_rows o
+    else if o.survey then shown.Nodes
     else if o.tabs then shown.Cells tables.Tabs
     else if o.commas then shown.Cells tables.Commas
     else if o.refused then shown.Line o.paths
@@ -143,10 +135,6 @@ asked_spelling o = if o.tally then spellings.Canonical else if o.raw then spelli
 -- what is printed in place of rows: of `-q`, `-l`, `-L`, `-c` the first decides
 abbrev pub asked_summary : Options → Summary
 asked_summary o = if o.quiet then summaries.Nothing else if o.with_matches then summaries.NameWith else if o.without_matches then summaries.NameWithout else if o.counted then summaries.Count else summaries.Nothing
-
--- the number of the line stands in front: as `-n` asks for, and of nodes whose paths are counted
-abbrev pub asks_numbers : Options → Bool
-asks_numbers o = o.numbered || surveys_nodes o
 
 -- the name of the file stands in front: as `-H` and `-h` ask for, and else where there are several; and of no tally and no paths
 abbrev pub asks_names : Options → Bool

@@ -4,7 +4,7 @@ ghost use Rattle.std.specs.Prelude.{◌≡◌, ◌||◌, ◌∷◌, [], List, ma
 ghost use Rattle.std.specs.Option.{option_map_or};
 ghost use Rattle.clap.specs.Words.{Row};
 ghost use Rattle.jp_options.specs.Command.{IsAskedBy, counts_all, missing_conflicts, refuses_survey, refuses_tally, told_conflicts};
-ghost use Rattle.jp_options.specs.Words.{asked_columns, asked_fold, asks_names, asks_numbers, counted_table, has_columns, has_header, has_several, survey_rows, surveys_nodes, tally_rows};
+ghost use Rattle.jp_options.specs.Words.{asked_columns, asked_fold, asks_names, counted_table, has_columns, has_header, has_several, tally_rows};
 
 use crate::messages::{NO_CONTEXT, NO_PATHS, NO_SURVEY, NO_TABLE, NO_TALLY};
 use crate::options::Options;
@@ -70,31 +70,6 @@ impl<'a> Options<'a> {
         } else {
             Table::Canonical
         }
-    }
-
-    /// Whether the paths of nodes are told that are asked one by one, and not those of lines.
-    pub fn surveys_nodes(&self) -> bool
-        ensures { result ≡ surveys_nodes self.now }
-    {
-        self.survey && !self.each.is_empty()
-    }
-
-    /// What the paths are told of: lines, or nodes with their paths.
-    pub(crate) fn surveyed(&self) -> Shown
-        ensures { result ≡ survey_rows self.now }
-    {
-        if self.surveys_nodes() {
-            Shown::Values { paths: true }
-        } else {
-            Shown::Line { faults: false }
-        }
-    }
-
-    /// Whether the number of a line stands in front of its rows.
-    pub(crate) fn is_numbered(&self) -> bool
-        ensures { result ≡ asks_numbers self.now }
-    {
-        self.numbered || self.surveys_nodes()
     }
 
     /// Whether the name of a file stands in front of its rows.

@@ -5,7 +5,7 @@ ghost use Rattle.std.specs.Option.{option_map_or};
 ghost use Rattle.clap.specs.Words.{Row};
 ghost use Rattle.jp_options.specs.Colour.{asked_marks, gives_query};
 ghost use Rattle.jp_options.specs.Command.{IsAskedBy, asks_each, asks_of_values, asks_spelling, conflicts_in, form_conflicts, names_nothing, prints_others, prints_values, stream_conflicts};
-ghost use Rattle.jp_options.specs.Words.{asked_files, asked_most, asked_queries, asked_rows, asked_spelling, asked_summary, asked_trailing, asked_units, asks_names, asks_numbers, begins_with_query, first_decides, names_list};
+ghost use Rattle.jp_options.specs.Words.{asked_files, asked_most, asked_queries, asked_rows, asked_spelling, asked_summary, asked_trailing, asked_units, asks_names, begins_with_query, first_decides, names_list};
 
 use crate::colour::Colour;
 use crate::messages::{
@@ -339,7 +339,7 @@ impl<'a> Options<'a> {
         } else if self.tally {
             self.tallied()
         } else if self.survey {
-            self.surveyed()
+            Shown::Nodes
         } else if self.tabs {
             Shown::Cells(Table::Tabs)
         } else if self.commas {
@@ -395,7 +395,7 @@ impl<'a> Options<'a> {
         ensures told_name { result.told_name ≡ told_name.entry }
         ensures named { result.named ≡ asks_names self.now }
         ensures null { result.null ≡ self.now.null }
-        ensures numbered { result.numbered ≡ asks_numbers self.now }
+        ensures numbered { result.numbered ≡ self.now.numbered }
         ensures coloured { result.coloured ≡ coloured }
         ensures marked { result.marked ≡ asked_marks coloured self.now }
         ensures silent { result.silent ≡ (self.now.silent || self.now.refused) }
@@ -412,7 +412,7 @@ impl<'a> Options<'a> {
             told_name,
             named: self.is_named(),
             null: self.null,
-            numbered: self.is_numbered(),
+            numbered: self.numbered,
             coloured,
             marked: self.marks_nodes(coloured),
             silent: self.silent || self.refused,

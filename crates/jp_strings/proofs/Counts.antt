@@ -1,5 +1,5 @@
 -- How many characters some bytes have.
-use Rattle.std.proofs.Common.{◌≡◌, ℕ, ◌+◌, ◌-◌, ◌/◌, ◌<◌, ◌≤◌, inl, inr, true, false, cond, nat_lt, List, [], ◌∷◌, ◌++◌, length, drop, take, sym, ◌∙◌, ap, refl, arith, Option, Some, length-append}
+use Rattle.std.proofs.Common.{append_assoc, encode_utf8, ◌≡◌, ℕ, ◌+◌, ◌-◌, ◌/◌, ◌<◌, ◌≤◌, inl, inr, true, false, cond, nat_lt, List, [], ◌∷◌, ◌++◌, length, drop, take, sym, ◌∙◌, ap, refl, arith, Option, Some, length-append}
 use Rattle.std.specs.List.{count_by}
 use lib.Utf8.{scalar, scalars, encode, encodes, next}
 use Rattle.std.proofs.lemmas.List.Sums.{sum_by-append}
@@ -11,7 +11,9 @@ use Rattle.jp_model.specs.Json.Strings.{paired, has_lone_surrogate}
 use Rattle.jp_model.proofs.Reader.Lexical.{clash}
 use Rattle.jp_model.proofs.Reader.Scans.{then_some}
 use Rattle.jp_strings.specs.Plain.{ArePlain, begins_character}
-use Rattle.jp_strings.specs.Points.{units_from, points_from, is_text_from}
+use Rattle.std.proofs.lemmas.Str.{encodes-append}
+use Rattle.jp_strings.specs.Points.{units_from, points_from, is_text_from, GoesOn}
+use Rattle.jp_strings.specs.Unescaped.{Unescapes}
 use Rattle.jp_strings.specs.Counts.{Counts}
 use Rattle.jp_strings.proofs.Halves.{high_is_surrogate, paired_single}
 use Rattle.jp_strings.proofs.Reading.{with_unit}
@@ -71,8 +73,10 @@ lone_behind : (cs ps : List ℕ) → has_lone_surrogate (cs ++ ps) ≡ false →
 lone_behind [] ps h = h
 lone_behind (c ∷ cs) ps h = lone_behind cs ps (or_parts _ _ h).1
 
-pub run_counts : (body : List ℕ) (at end : ℕ) → at < end → end ≤ length body → is_text_from body at ≡ true → ArePlain body at end → (end < length body → is_special (byte_at body end) ≡ true) → Counts body at end (count_by begins_character (take (end - at) (drop at body)))
-run_counts body at end o l t p s =
+-- the scalars of a run, which are some, stand for themselves in front of what is spelled behind it
+pub run_points : (body : List ℕ) (at end : ℕ) → at < end → end ≤ length body → is_text_from body at ≡ true → ArePlain body at end → (end < length body → is_special (byte_at body end) ≡ true) →
+    (cs : List ℕ) × (scalars cs ≡ true) × (encodes cs ≡ take (end - at) (drop at body)) × (0 < length cs) × (points_from body at ≡ cs ++ points_from body end) × (is_text_from body end ≡ true)
+run_points body at end o l t p s =
     let run = run_units body at end o l (text_utf8 body at t) p s in
     let cs = run.0 in
     let all = text_units body at t in
@@ -81,11 +85,39 @@ run_counts body at end o l t p s =
     let here : points_from body at ≡ cs ++ paired rest.0 = points_from_units body at (cs ++ rest.0) same ∙ paired_front cs rest.0 run.1 in
     let us : all.0 ≡ cs ++ rest.0 = same_Some _ _ (sym all.1 ∙ same) in
     let whole = sym (ap (λ xs. has_lone_surrogate (paired xs)) us ∙ ap has_lone_surrogate (paired_front cs rest.0 run.1)) ∙ all.2 in
-    let count : count_by begins_character (take (end - at) (drop at body)) ≡ length cs = ap (count_by begins_character) (sym run.2) ∙ count_encodes cs in
+    let behind = points_from_units body end rest.0 rest.1 in
+    (cs, run.1, run.2, run.3, here ∙ ap (λ (xs : List ℕ). cs ++ xs) (sym behind), text_from_units body end rest.0 rest.1 (lone_behind cs (paired rest.0) whole))
+
+pub run_counts : (body : List ℕ) (at end : ℕ) → at < end → end ≤ length body → is_text_from body at ≡ true → ArePlain body at end → (end < length body → is_special (byte_at body end) ≡ true) → Counts body at end (count_by begins_character (take (end - at) (drop at body)))
+run_counts body at end o l t p s =
+    let run = run_points body at end o l t p s in
+    let count : count_by begins_character (take (end - at) (drop at body)) ≡ length run.0 = ap (count_by begins_character) (sym run.2) ∙ count_encodes run.0 in
     let some = run.3 in
-    let size = ap length here ∙ length-append cs (paired rest.0) in
-    let behind = ap length (points_from_units body end rest.0 rest.1) in
-    record { some = omega (arith, count, some); points = omega (arith, count, size, behind); text = text_from_units body end rest.0 rest.1 (lone_behind cs (paired rest.0) whole) }
+    let size = ap length run.4 ∙ length-append run.0 (points_from body end) in
+    record { some = omega (arith, count, some); points = omega (arith, count, size); text = run.5 }
+
+-- appended to bytes, a run's bytes are what is spelled up to its end
+pub run_unescapes : (body before : List ℕ) (at end : ℕ) → at < end → end ≤ length body → is_text_from body at ≡ true → ArePlain body at end → (end < length body → is_special (byte_at body end) ≡ true) → Unescapes body at end before (before ++ take (end - at) (drop at body))
+run_unescapes body before at end o l t p s =
+    let run = run_points body at end o l t p s in
+    let some = run.3 in
+    let size = ap length run.4 ∙ length-append run.0 (points_from body end) in
+    record {
+      some = omega (arith, some, size);
+      bytes = append_assoc before (take (end - at) (drop at body)) (encodes (points_from body end))
+          ∙ ap (λ (xs : List ℕ). before ++ xs) (ap (λ (xs : List ℕ). xs ++ encodes (points_from body end)) (sym run.2) ∙ (sym (encodes-append run.0 (points_from body end)) ∙ ap encodes (sym run.4)));
+      text = run.5;
+    }
+
+-- so is the scalar that an escape stands for
+pub scalar_unescapes : (body before : List ℕ) (at scalar end : ℕ) → GoesOn body at scalar end → Unescapes body at end before (before ++ encode_utf8 scalar)
+scalar_unescapes body before at scalar end g =
+    let size = ap length g.points in
+    record {
+      some = omega (arith, size);
+      bytes = append_assoc before (encode_utf8 scalar) (encodes (points_from body end)) ∙ ap (λ (xs : List ℕ). before ++ xs) (ap encodes (sym g.points));
+      text = g.text;
+    }
 
 -- where a text goes on at a special byte, that is a backslash
 pub special_is_backslash : (body : List ℕ) (at : ℕ) → is_text_from body at ≡ true → at < length body → is_special (byte_at body at) ≡ true → byte_at body at ≡ 0x5C

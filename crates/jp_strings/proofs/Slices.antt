@@ -1,9 +1,13 @@
 -- A body within a line is a body by itself.
-use Rattle.std.proofs.Common.{◌≡◌, ℕ, ◌+◌, ◌-◌, ◌<◌, ◌≤◌, inl, inr, List, [], ◌∷◌, length, drop, take, sym, ◌∙◌, ap, ap₂, subst, false, refl, arith, get_or-drop, length-drop}
+use Rattle.std.proofs.Common.{◌≡◌, ℕ, ◌+◌, ◌-◌, ◌<◌, ◌≤◌, inl, inr, List, [], ◌∷◌, length, drop, take, sym, ◌∙◌, ap, ap₂, subst, true, false, refl, arith, get_or-drop, length-drop}
 use Rattle.std.proofs.lemmas.List.{get_or-take, take-take, drop-take, drop-drop, length-take-le}
 use Rattle.jp_model.specs.Json.Places.{byte_at, bytes_between, Has}
 use Rattle.jp_model.specs.Json.Strings.{SpellsCharacter, SpellsCharacters, SpellsBody, has_lone_surrogate}
 use Rattle.jp_model.specs.Characters.{four_digits}
+use Rattle.std.proofs.lemmas.Bool.{cases_lt}
+use Rattle.jp_lanes.specs.Search.{is_special, IsFirstSpecial}
+use Rattle.jp_model.proofs.Reader.Lexical.{clash}
+use Rattle.jp_strings.specs.Within.{StandsWithin}
 use Rattle.jp_strings.specs.Points.{IsText, points_of}
 use Rattle.jp_strings.proofs.Reading.{character_longer, characters_longer}
 use Rattle.jp_strings.proofs.Texts.{points_of_spelled}
@@ -16,6 +20,39 @@ record Part (line part : List ℕ) (from : ℕ) : Type 0 where
 
 same_byte : (line part : List ℕ) (from i k : ℕ) → Part line part from → i < length part → k ≡ from + i → byte_at part i ≡ byte_at line k
 same_byte line part from i k p l e = ap (λ xs. byte_at xs i) p.is ∙ (get_or-take (length part) (drop from line) i 0 l ∙ (get_or-drop from line i 0 ∙ ap (byte_at line) (sym e)))
+
+-- the first special byte of the line from there on is that of a body that stands there
+pub special_within : (line body : List ℕ) (from at end : ℕ) → StandsWithin line body from → at ≤ length body → IsFirstSpecial line (from + at) end → IsFirstSpecial body at (end - from)
+special_within line body from at end s w f =
+    let part : Part line body from = record { inside = s.inside; is = s.is } in
+    let inside = s.inside in
+    let order = f.order in
+    let last : end ≤ from + length body = elim (cases_lt (from + length body) end) [
+      | inl lt ↦ absurd (clash _ (s.closes (let o = f.within in omega (arith, lt, o))) (f.plain (from + length body) (omega (arith, w)) lt))
+      | inr le ↦ le
+    ] in
+    record {
+      order = omega (arith, order);
+      within = omega (arith, last, order);
+      plain = λ k low high.
+          ap is_special (same_byte line body from k (from + k) part (omega (arith, high, last, order)) refl) ∙ f.plain (from + k) (omega (arith, low)) (omega (arith, high));
+      stops = λ l.
+          (let there : from + (end - from) ≡ end = omega (arith, order) in
+          let e = same_byte line body from (end - from) (from + (end - from)) part l refl ∙ ap (byte_at line) there in
+          ap is_special e ∙ f.stops (omega (arith, l, inside)));
+    }
+
+-- what is between two places of a line stands there
+pub between_stands : (line : List ℕ) (from to : ℕ) → from ≤ to → to ≤ length line → (to < length line → is_special (byte_at line to) ≡ true) → StandsWithin line (bytes_between line from to) from
+between_stands line from to o w closes =
+    let d = length-drop from line in
+    let size : length (bytes_between line from to) ≡ to - from = length-take-le (to - from) (drop from line) (omega (arith, d, o, w)) in
+    let place : from + length (bytes_between line from to) ≡ to = omega (arith, size, o) in
+    record {
+      inside = omega (arith, place, w);
+      is = ap (λ n. take n (drop from line)) (sym size);
+      closes = λ l. ap (λ i. is_special (byte_at line i)) place ∙ closes (omega (arith, place, l));
+    }
 
 same_bytes : (line part : List ℕ) (from i j k l : ℕ) → Part line part from → i ≤ j → j ≤ length part → k ≡ from + i → l ≡ from + j → bytes_between part i j ≡ bytes_between line k l
 same_bytes line part from i j k l p o w e f =

@@ -5,3 +5,5 @@ pub mod Scalars
 pub mod Halves
 pub mod Plain
 pub mod Counts
+pub mod Unescaped
+pub mod Within

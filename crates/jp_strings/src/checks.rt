@@ -1,8 +1,11 @@
 //! Whether bytes are a body, and one whose every escape stands for a scalar.
-ghost use Rattle.std.specs.Prelude.{◌≡◌, ℕ, ◌<◌, List, [], ◌∷◌, None, false, length, drop, MatchOption, MatchResult};
+ghost use Rattle.std.specs.Prelude.{◌≡◌, ℕ, ◌<◌, ◌≤◌, List, [], ◌∷◌, None, true, false, length, drop, MatchOption, MatchResult};
 ghost use Rattle.std.specs.Str.{IsUtf8};
 ghost use Rattle.jp_model.specs.Characters.{is_surrogate, is_low_surrogate as is_low_half};
+ghost use Rattle.jp_lanes.specs.Search.{is_special, IsFirstSpecial};
+ghost use Rattle.jp_model.specs.Json.Places.{byte_at, bytes_between};
 ghost use Rattle.jp_strings.specs.Points.{IsText, units_from};
+ghost use Rattle.jp_strings.specs.Within.{StandsWithin};
 ghost use Rattle.jp_strings.specs.Faults.{HasFault};
 ghost use Rattle.jp_strings.specs.Halves.{Advances};
 
@@ -60,9 +63,27 @@ impl Halves {
     }
 }
 
-/// One escape, or all characters up to the next one: the position after them, and what was seen then.
+/// The next special byte of a body that stands in a line at `from`, or its end. The line is searched, of which more bytes are
+/// left than of the body, so that they are looked at together.
 #[inline(always)]
-fn advance(body: &[u8], at: usize, seen: Halves) -> Option<(usize, Halves)>
+fn special_end(line: &[u8], from: usize, at: usize) -> usize
+    requires { (body : List ℕ) × StandsWithin line.now body from × (at ≤ length body) }
+    ensures { (body : List ℕ) → StandsWithin line.now body from → at ≤ length body → IsFirstSpecial body at result }
+{
+    first_special(line, from + at) - from
+}
+
+/// One escape, or all characters up to the next one, of a body that stands in a line at `from`: the position after them, and
+/// what was seen then.
+#[inline(always)]
+fn advance(
+    line: &[u8],
+    from: usize,
+    body: &[u8],
+    at: usize,
+    seen: Halves,
+) -> Option<(usize, Halves)>
+    requires place { StandsWithin line.now body.now from }
     requires inside { at < length body.now }
     requires utf8 { IsUtf8 (drop at body.now) }
     ensures { MatchOption result (units_from body.now at ≡ None)
@@ -72,7 +93,7 @@ fn advance(body: &[u8], at: usize, seen: Halves) -> Option<(usize, Halves)>
         let (unit, end) = read_escape(body, at)?;
         return Some((end, seen.with_unit(unit)));
     }
-    let end = first_special(body, at);
+    let end = special_end(line, from, at);
     if at == end {
         return None;
     }
@@ -91,19 +112,24 @@ pub fn test_body(body: &[u8]) -> Result<(), StringFault>
     test_utf8_body(body)
 }
 
-/// Answers as `test_body` does, of bytes that are known to be UTF-8 (RFC 8259, sections 7 and 8.1),
-/// as those of a body within a line of UTF-8 are: it looks at characters and escapes alone.
-pub fn test_utf8_body(body: &[u8]) -> Result<(), StringFault>
-    requires { IsUtf8 body.now }
-    ensures { MatchResult result (λ _. IsText body.now) (HasFault body.now) }
+/// Answers as `test_body` does, of the bytes of a line between two places, which are known to be UTF-8 (RFC 8259, sections 7
+/// and 8.1): it looks at characters and escapes alone. The line ends there, or has a byte that ends a run of characters, as a
+/// closing quote is.
+pub fn test_utf8_within(line: &[u8], from: usize, to: usize) -> Result<(), StringFault>
+    requires order { from ≤ to }
+    requires within { to ≤ length line.now }
+    requires closes { to < length line.now → is_special (byte_at line.now to) ≡ true }
+    requires utf8 { IsUtf8 (bytes_between line.now from to) }
+    ensures { MatchResult result (λ _. IsText (bytes_between line.now from to)) (HasFault (bytes_between line.now from to)) }
 {
+    let body = &line[from..to];
     let mut seen = Halves {
         after_high: false,
         is_lone: false,
     };
     let mut at = 0;
     while at < body.len() {
-        let Some(next) = advance(body, at, seen) else {
+        let Some(next) = advance(line, from, body, at, seen) else {
             return Err(StringFault::Shape);
         };
         (at, seen) = next;
@@ -112,4 +138,13 @@ pub fn test_utf8_body(body: &[u8]) -> Result<(), StringFault>
         return Err(StringFault::Surrogate);
     }
     Ok(())
+}
+
+/// Answers as `test_body` does, of bytes that are known to be UTF-8 (RFC 8259, sections 7 and 8.1), as those of a body within a
+/// line of UTF-8 are.
+pub fn test_utf8_body(body: &[u8]) -> Result<(), StringFault>
+    requires { IsUtf8 body.now }
+    ensures { MatchResult result (λ _. IsText body.now) (HasFault body.now) }
+{
+    test_utf8_within(body, 0, body.len())
 }

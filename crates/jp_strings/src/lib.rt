@@ -2,11 +2,11 @@
 //!
 //! Public calls:
 //!
-//! - `test_body`, `test_utf8_body`: whether bytes are the body of a string, or the fault; the second for bytes known to be
-//!   UTF-8
+//! - `test_body`, `test_utf8_body`, `test_utf8_within`: whether bytes are the body of a string, or the fault; the second for
+//!   bytes known to be UTF-8, the third for such bytes of a line
 //! - `Scalars`, `scalar_count`, `equal`, `compare`, `compare_scalars`, `unescape`: the scalars that a body spells; their
 //!   number, equality, order (the second reads no further than the bodies agree) and text
-//! - `plain_text`: that text without a copy, of a body with no escape
+//! - `unescape_into`, `plain_text`: that text in a buffer whose room is kept; without a copy, of a body with no escape
 //! - `spells`, `compare_text`: whether a body spells a text; their order
 //! - `is_plain`, `spells_known`: whether each byte of a text stands for itself; `spells` for a text for which that may be
 //!   known
@@ -21,12 +21,12 @@ pub mod laws;
 mod order;
 mod scalars;
 
-pub use checks::{test_body, test_utf8_body};
+pub use checks::{test_body, test_utf8_body, test_utf8_within};
 pub use control::control_escape;
 pub use fault::StringFault;
 pub use order::{
     compare, compare_scalars, compare_text, equal, is_plain, plain_text, scalar_count, spells,
-    spells_known, unescape,
+    spells_known, unescape, unescape_into,
 };
 pub use scalars::Scalars;
 

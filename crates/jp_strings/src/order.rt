@@ -1,5 +1,5 @@
 //! Equality, order and size of bodies by the scalars that they spell.
-ghost use Rattle.std.specs.Prelude.{◌≡◌, true, false, ◌^◌, ◌<◌, ◌≤◌, IfOk, IfSome, IfNone, IsTrue, count_by, length};
+ghost use Rattle.std.specs.Prelude.{◌≡◌, true, false, ◌^◌, ◌<◌, ◌≤◌, ◌++◌, IfOk, OnOk, IfSome, IfNone, IsTrue, count_by, length, encode_utf8_all};
 ghost use Rattle.std.specs.Cmp.Lexicographic.{slice_cmp};
 ghost use Rattle.std.specs.Ordering.{nat_cmp};
 ghost use Rattle.std.specs.Str.{chars};
@@ -7,6 +7,7 @@ ghost use Rattle.std.specs.String.{string_bytes};
 ghost use Rattle.jp_model.specs.Characters.{text_equal};
 ghost use Rattle.jp_strings.specs.Plain.{ArePlain, begins_character};
 ghost use Rattle.jp_strings.specs.Counts.{Counts};
+ghost use Rattle.jp_strings.specs.Unescaped.{Unescapes};
 ghost use Rattle.jp_strings.specs.Points.{IsText, points_of, is_text_from};
 
 use crate::scalars::{Scalars, escaped_scalar_at};
@@ -222,21 +223,53 @@ pub fn plain_text(body: &[u8]) -> Option<&str>
     Some(unsafe { str::from_utf8_unchecked(body) })
 }
 
-/// The text that a body spells, scalar by scalar.
-fn unescape_scalars(alloc: Global, body: &[u8]) -> Result<String, AllocError>
-    requires { IsText body.now }
-    ensures { IfOk result (λ text. chars (string_bytes text) ≡ points_of body.now) }
+/// Appends all characters up to the next escape, or the one that it stands for: the position after them.
+#[inline(always)]
+fn unescape_some(text: &mut String, body: &[u8], at: usize) -> Result<usize, AllocError>
+    requires inside { at < length body.now }
+    requires text { IsTrue (is_text_from body.now at) }
+    ensures { IfOk result (λ behind. Unescapes body.now at behind (string_bytes text.old) (string_bytes text.new)) }
 {
-    Scalars::new(body).collect(alloc)
+    let end = first_special(body, at);
+    if at < end {
+        text.push_str(unsafe { str::from_utf8_unchecked(&body[at..end]) })?;
+        return Ok(end);
+    }
+    let (scalar, end) = escaped_scalar_at(body, at);
+    text.push(scalar)?;
+    Ok(end)
 }
 
-/// The text that a body spells. Only a body with an escape is decoded.
+/// Appends the text that a body spells.
+fn add_unescaped(text: &mut String, body: &[u8]) -> Result<(), AllocError>
+    requires { IsText body.now }
+    ensures { OnOk result (string_bytes text.new ≡ string_bytes text.old ++ encode_utf8_all (points_of body.now)) }
+{
+    // An escape is longer than what it stands for, so this is room for all of it.
+    text.reserve(body.len())?;
+    let mut at = 0;
+    while at < body.len() {
+        at = unescape_some(text, body, at)?;
+    }
+    Ok(())
+}
+
+/// The text that a body spells, in place of what the buffer holds. Its room is kept, so that many bodies are read with few
+/// allocations. Where there is no memory, the buffer holds a part of the text.
+pub fn unescape_into(text: &mut String, body: &[u8]) -> Result<(), AllocError>
+    requires { IsText body.now }
+    ensures { OnOk result (chars (string_bytes text.new) ≡ points_of body.now) }
+{
+    text.clear();
+    add_unescaped(text, body)
+}
+
+/// The text that a body spells.
 pub fn unescape(alloc: Global, body: &[u8]) -> Result<String, AllocError>
     requires { IsText body.now }
     ensures { IfOk result (λ text. chars (string_bytes text) ≡ points_of body.now) }
 {
-    match plain_text(body) {
-        Some(text) => String::from_str(alloc, text),
-        None => unescape_scalars(alloc, body),
-    }
+    let mut text = String::new(alloc);
+    unescape_into(&mut text, body)?;
+    Ok(text)
 }

@@ -154,6 +154,19 @@ fn scalars_are_yielded(rt: HostRuntime) -> Result<(), Fail> {
 }
 
 #[test]
+fn bodies_are_unescaped_into_one_buffer(rt: HostRuntime) -> Result<(), Fail> {
+    let (first, second): (&[u8], &[u8]) = (b"ring \\\"twice\\\"\\u00e9", b"\\ud83d\\ude00x");
+    test_body(first)?;
+    test_body(second)?;
+    let mut text = String::new(rt.alloc());
+    unescape_into(&mut text, first)?;
+    assert_eq!(rt; text.as_str(), "ring \"twice\"é");
+    unescape_into(&mut text, second)?;
+    assert_eq!(rt; text.as_str(), "\u{1F600}x");
+    Ok(())
+}
+
+#[test]
 fn plain_bodies_are_ordered_by_scalars(rt: HostRuntime) -> Result<(), Fail> {
     let bodies = [
         "",

@@ -33,8 +33,6 @@ pub mod Depths
 pub mod Told
 pub mod Reordered
 pub mod Rows
-pub mod Came
-pub mod Located
 pub mod Begun
 pub mod Walks
-pub mod Taken
+pub mod Lines

@@ -3,19 +3,20 @@ use Rattle.std.proofs.Common.{◌≡◌, ◌∙◌, ℕ, ◌+◌, ◌<◌, ◌�
 use Rattle.std.specs.Prelude.{Some, if◌then◌else◌, slice_get}
 use Rattle.std.proofs.lemmas.Bool.{cases_Bool, cases_lt}
 use Rattle.std.proofs.lemmas.List.{map-append, get_or_append_left, get_or_push, replicate-append-replicate, length_push}
-use Rattle.std.proofs.lemmas.List.Sums.{fold-append}
 use Rattle.std.proofs.lemmas.Option.{same_Some}
-use Rattle.jp_model.specs.Meaning.Nodes.{Node, step_to}
+use Rattle.jp_model.specs.Meaning.Nodes.{Node, root_node, step_to, subtree}
 use Rattle.jp_model.specs.Steps.{Step}
-use Rattle.jp_nodes.specs.Cursors.{index_of, name_of, node_of}
+use Rattle.jp_nodes.specs.Cursors.{index_of, line_of, name_of, node_of, place_of, root_of}
+use Rattle.jp_nodes.specs.Tapes.{spelled}
 use Rattle.jp_nodes.specs.declared.cursor.Cursor.{Cursor}
 use Rattle.jp_survey.specs.Counts.{no_counts}
-use Rattle.jp_survey.specs.Foldings.{folded_below, longer}
-use Rattle.jp_survey.specs.Paths.{Path, Stride, stride_of, strides_of}
+use Rattle.jp_survey.specs.Foldings.{folded_by, longer}
+use Rattle.jp_survey.specs.Paths.{Path, stride_of, strides_of}
 use Rattle.jp_survey.specs.Places.{AreApart, AreLinked, ArePlaces, folds_of, has_link, link_at, names_in, path_at, paths_of, stride_in, with_link}
 use Rattle.jp_survey.specs.Trees.{AreKnown, Grows, IsPlaceAt, IsTree, Leads, links_of, names_of, stride_to, tree_folds, tree_paths}
 use Rattle.jp_survey.specs.declared.links.Link.{Link}
 use Rattle.jp_survey.specs.declared.tree.Tree.{Tree}
+use Rattle.jp_survey.proofs.Folded.{folded_push}
 use Rattle.jp_survey.proofs.Names.{path_of_link}
 use Rattle.jp_survey.proofs.Places.{grown, grown_apart, grown_paths, many_paths, same_folds}
 
@@ -144,40 +145,40 @@ module _ (old new : Tree) (tree : IsTree old) (link : Link) (leads : Leads old l
 
 -- ---- the places of nodes
 
-pub known_more : (old mid : Tree) → IsTree old → IsTree mid → Grows old mid → (top : ℕ) → top < length (links_of old) → (nodes : List Node) (n : ℕ) → length old.places.items ≡ n → AreKnown old top nodes n
-    → (node : Node) → slice_get nodes n ≡ Some node → (place : ℕ) → IsPlaceAt mid place (folded_below (tree_folds old) (path_at (tree_paths old) top) (strides_of node.location))
+pub known_more : (old mid : Tree) → IsTree old → IsTree mid → Grows old mid → (nodes : List Node) (first n : ℕ) → first + length old.places.items ≡ n → AreKnown old nodes first n
+    → (node : Node) → slice_get nodes n ≡ Some node → (place : ℕ) → IsPlaceAt mid place (folded_by (tree_folds old) (strides_of node.location))
     → (places : List ℕ) → places ≡ old.places.items ++ place ∷ []
-    → (j : ℕ) (other : Node) → j < n + 1 → slice_get nodes j ≡ Some other
-    → (j < length places) × IsPlaceAt mid (get_or places j 0) (folded_below (tree_folds mid) (path_at (tree_paths mid) top) (strides_of other.location))
-known_more old mid tree now g top within nodes n long known node at place is places pushed j other l here = by (cases_lt j n)
+    → (k : ℕ) (other : Node) → first + k < n + 1 → slice_get nodes (first + k) ≡ Some other
+    → (k < length places) × IsPlaceAt mid (get_or places k 0) (folded_by (tree_folds mid) (strides_of other.location))
+known_more old mid tree now g nodes first n long known node at place is places pushed k other l here = by (cases_lt (first + k) n)
   where
-    many : length places ≡ n + 1
+    many : first + length places ≡ n + 1
     many = let one = length_push old.places.items place in let all = ap length pushed in omega (arith, one, all, long)
 
     -- the path of a node stays
-    same_path : (location : List Step) → folded_below (tree_folds old) (path_at (tree_paths old) top) (strides_of location) ≡ folded_below (tree_folds mid) (path_at (tree_paths mid) top) (strides_of location)
-    same_path location = ap₂ (λ (f : List Path) (p : Path). folded_below f p (strides_of location)) (sym g.folds) (sym (path_stays old mid tree g top within))
+    same_path : (location : List Step) → folded_by (tree_folds old) (strides_of location) ≡ folded_by (tree_folds mid) (strides_of location)
+    same_path location = ap (λ (f : List Path). folded_by f (strides_of location)) (sym g.folds)
 
-    by : ((j < n) ⊎ (n ≤ j)) → (j < length places) × IsPlaceAt mid (get_or places j 0) (folded_below (tree_folds mid) (path_at (tree_paths mid) top) (strides_of other.location))
+    by : ((first + k < n) ⊎ (n ≤ first + k)) → (k < length places) × IsPlaceAt mid (get_or places k 0) (folded_by (tree_folds mid) (strides_of other.location))
     by (inl s) =
-        let was = known j other s here in
-        let same : get_or places j 0 ≡ get_or old.places.items j 0 =
-        ap (λ (p : List ℕ). get_or p j 0) pushed ∙ get_or_append_left old.places.items (place ∷ []) 0 j was.0 in
+        let was = known k other s here in
+        let same : get_or places k 0 ≡ get_or old.places.items k 0 =
+        ap (λ (p : List ℕ). get_or p k 0) pushed ∙ get_or_append_left old.places.items (place ∷ []) 0 k was.0 in
         let all = many in (
           omega (arith, all, s),
-          subst (λ (p : ℕ). IsPlaceAt mid p (folded_below (tree_folds mid) (path_at (tree_paths mid) top) (strides_of other.location))) (sym same)
-              (subst (λ (p : Path). IsPlaceAt mid (get_or old.places.items j 0) p) (same_path other.location)
-              (place_stays old mid tree now g (get_or old.places.items j 0) (folded_below (tree_folds old) (path_at (tree_paths old) top) (strides_of other.location)) was.1)),
+          subst (λ (p : ℕ). IsPlaceAt mid p (folded_by (tree_folds mid) (strides_of other.location))) (sym same)
+              (subst (λ (p : Path). IsPlaceAt mid (get_or old.places.items k 0) p) (same_path other.location)
+              (place_stays old mid tree now g (get_or old.places.items k 0) (folded_by (tree_folds old) (strides_of other.location)) was.1)),
         )
     by (inr s) =
-        let last : n ≡ j = omega (arith, l, s) in
+        let last : n ≡ first + k = omega (arith, l, s) in
         let it : node ≡ other = same_Some node other (sym at ∙ (ap (slice_get nodes) last ∙ here)) in
-        let same : get_or places j 0 ≡ place = ap (λ (p : List ℕ). get_or p j 0) pushed ∙ get_or_push old.places.items place 0 j (long ∙ last) in
+        let same : get_or places k 0 ≡ place = ap (λ (p : List ℕ). get_or p k 0) pushed ∙ get_or_push old.places.items place 0 k (omega (arith, long, last)) in
         let all = many in (
           omega (arith, all, l),
-          subst (λ (p : ℕ). IsPlaceAt mid p (folded_below (tree_folds mid) (path_at (tree_paths mid) top) (strides_of other.location))) (sym same)
+          subst (λ (p : ℕ). IsPlaceAt mid p (folded_by (tree_folds mid) (strides_of other.location))) (sym same)
               (subst (λ (p : Path). IsPlaceAt mid place p) (same_path other.location)
-              (subst (λ (m : Node). IsPlaceAt mid place (folded_below (tree_folds old) (path_at (tree_paths old) top) (strides_of m.location))) it is)),
+              (subst (λ (m : Node). IsPlaceAt mid place (folded_by (tree_folds old) (strides_of m.location))) it is)),
         )
 
 -- a tree where nothing of this changes is one
@@ -194,18 +195,18 @@ stays_tree old new names links counts tree =
 
 -- ---- the place of a node
 
--- the root of a text is at its own place
-pub top_place : (tree : Tree) (top : ℕ) → top < length (links_of tree) → (node : Node) → node.location ≡ []
-    → IsPlaceAt tree top (folded_below (tree_folds tree) (path_at (tree_paths tree) top) (strides_of node.location))
-top_place tree top within node is = (within, sym (ap (λ l. folded_below (tree_folds tree) (path_at (tree_paths tree) top) (strides_of l)) is))
-
-below_push : (folds : List Path) (above path : Path) (stride : Stride) → folded_below folds above (path ++ stride ∷ []) ≡ longer folds (folded_below folds above path) stride
-below_push folds above path stride = fold-append (longer folds) above path (stride ∷ [])
-
 -- a node has the path of its parent, and a stride more
-pub child_below : (folds : List Path) (top : Path) (node parent : Cursor) → (node_of node).location ≡ (node_of parent).location ++ step_to (index_of node) (name_of node) ∷ []
-    → longer folds (folded_below folds top (strides_of (node_of parent).location)) (stride_to node) ≡ folded_below folds top (strides_of (node_of node).location)
-child_below folds top node parent is =
-    sym (ap (λ l. folded_below folds top (strides_of l)) is
-    ∙ (ap (folded_below folds top) (map-append stride_of (node_of parent).location (step_to (index_of node) (name_of node) ∷ []))
-    ∙ below_push folds top (strides_of (node_of parent).location) (stride_to node)))
+pub child_below : (folds : List Path) (node parent : Cursor) → (node_of node).location ≡ (node_of parent).location ++ step_to (index_of node) (name_of node) ∷ []
+    → longer folds (folded_by folds (strides_of (node_of parent).location)) (stride_to node) ≡ folded_by folds (strides_of (node_of node).location)
+child_below folds node parent is =
+    sym (ap (λ l. folded_by folds (strides_of l)) is
+    ∙ (ap (folded_by folds) (map-append stride_of (node_of parent).location (step_to (index_of node) (name_of node) ∷ []))
+    ∙ folded_push folds (strides_of (node_of parent).location) (stride_to node)))
+
+-- the place of its parent is known, where those of the nodes before it are
+pub parent_known : (tree : Tree) (node parent : Cursor) (first number place : ℕ) → AreKnown tree (subtree (root_node (root_of node))) first (place_of node) → line_of parent ≡ line_of node
+    → place_of parent < place_of node → place ≡ place_of parent → slice_get (subtree (root_node (root_of parent))) place ≡ Some (node_of parent) → first + number ≡ place
+    → (number < length tree.places.items) × IsPlaceAt tree (get_or tree.places.items number 0) (folded_by (tree_folds tree) (strides_of (node_of parent).location))
+parent_known tree node parent first number place known line before own at is =
+    known number (node_of parent) (omega (arith, is, own, before))
+    (ap (slice_get (subtree (root_node (root_of node)))) is ∙ (ap (λ (l : List ℕ). slice_get (subtree (root_node (spelled l))) place) (sym line) ∙ at))

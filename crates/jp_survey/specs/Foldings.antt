@@ -22,10 +22,6 @@ longer folds above stride = above ++ shown_stride folds above stride ∷ []
 abbrev pub folded_by : (folds : List Path) → Path → Path
 folded_by folds path = fold (longer folds) [] path
 
--- a path that goes on from another, which is folded
-abbrev pub folded_below : (folds : List Path) → (above : Path) → Path → Path
-folded_below folds above path = fold (longer folds) above path
-
 -- All objects of the second paths are folded by the first.
 abbrev pub Closed : (folds some : List Path) → Type 0
 Closed folds some = (path : Path) → has_path some path ≡ true → has_path folds (folded_by folds path) ≡ true

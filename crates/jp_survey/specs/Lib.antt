@@ -8,9 +8,9 @@ pub mod Foldings
 pub mod Movings
 pub mod Justified
 pub mod Trees
-pub mod Located
-pub mod Rows
+pub mod Told
 pub mod Seen
+pub mod Held
 pub mod Entries
 pub mod Walked
 pub mod Texts

@@ -1,9 +1,9 @@
 -- The paths of nodes, in which no index is told (profile).
-use Rattle.std.specs.Prelude.{ℕ, List, [], ◌∷◌, ◌++◌, Bool, true, false, ◌&&◌, ◌==◌, flat_map, map, codes}
+use Rattle.std.specs.Prelude.{ℕ, List, [], ◌∷◌, Bool, true, false, ◌&&◌, ◌==◌, flat_map, map, codes}
 use Rattle.jp_model.specs.Characters.{text_equal}
 use Rattle.jp_model.specs.Steps.{Step, name_step, index_step}
-use Rattle.jp_model.specs.Json.Tree.{Tree, Value, null, boolean, number, string, container, Container, array, object, value_of}
-use Rattle.jp_model.specs.Meaning.Nodes.{Node, root_node, subtree}
+use Rattle.jp_model.specs.Json.Tree.{Value, null, boolean, number, string, container, Container, array, object, value_of}
+use Rattle.jp_model.specs.Meaning.Nodes.{Node, subtree}
 use Rattle.jp_nodes.specs.declared.Kind.{Kind}
 use Rattle.jp_nodes.specs.declared.Kind.TheVariants as told
 use Rattle.jp_survey.specs.declared.kind.NodeKind.{NodeKind}
@@ -91,17 +91,9 @@ pub record Mark : Type 0 where
 abbrev pub mark_of : Node → Mark
 mark_of n = record { path = strides_of n.location; kind = kind_of (value_of n.tree) }
 
--- what it sees of a node at a location, by its place in the text of the node there
-abbrev pub mark_below : List Step → Node → Mark
-mark_below location n = record { path = strides_of location ++ strides_of n.location; kind = kind_of (value_of n.tree) }
-
 -- What of a line is surveyed: nodes of it, each with all that is in it.
 abbrev pub Line : Type 0
 Line = List Node
-
--- the nodes of a line that is surveyed as a whole: its root
-abbrev pub whole_line : Tree → Line
-whole_line t = root_node t ∷ []
 
 -- what a survey sees of a line; of what is in two of its nodes it does twice
 abbrev pub marks_of : Line → List Mark

@@ -1,16 +1,13 @@
--- What a survey has of the nodes of texts (profile).
-use Rattle.std.specs.Prelude.{true, false, Bool, ◌&&◌, Some, None, if◌then◌else◌, ◌≡◌, ℕ, List, [], ◌∷◌, ◌-◌, length, take, flat_map, count_by, min, map, All, Option}
+-- What a survey has of the nodes of lines (profile).
+use Rattle.std.specs.Prelude.{true, false, Bool, ◌&&◌, Some, None, if◌then◌else◌, ◌≡◌, ℕ, List, flat_map, count_by, min, map, All, Option}
 use Rattle.std.specs.List.{list_any}
 use Rattle.std.specs.Cmp.Lexicographic.{slice_cmp}
 use Rattle.std.specs.List.Sorted.{IsSorted}
 use Rattle.std.specs.Ordering.{nat_cmp, ordering_then}
 use Rattle.std.specs.declared.cmp.Ordering.{Ordering}
 use Rattle.std.specs.declared.cmp.Ordering.TheVariants.{Less, Equal, Greater}
-use Rattle.jp_model.specs.declared.Framing.TheVariants as framings
-use Rattle.jp_model.specs.Json.Reader.{status_of}
-use Rattle.jp_model.specs.Json.Status.{LineStatus, blank, refused, parsed}
 use Rattle.jp_survey.specs.Folds.{folded}
-use Rattle.jp_survey.specs.Paths.{Line, Mark, Path, Stride, element, kind_number, marks_of, member, others, path_equal, same_kind, whole_line}
+use Rattle.jp_survey.specs.Paths.{Line, Mark, Path, Stride, element, kind_number, marks_of, member, others, path_equal, same_kind}
 use Rattle.jp_survey.specs.declared.kind.NodeKind.{NodeKind}
 
 -- How many nodes of a kind have a path, and in how many lines there is one, where that is told.
@@ -86,17 +83,3 @@ shown_by fold lines = folded fold (paths_in lines)
 -- a survey of lines, in which objects of more names than `fold` are folded
 abbrev pub IsSurvey : (fold : ℕ) → List Line → List Entry → Type 0
 IsSurvey fold lines survey = IsSurveyBy (shown_by fold lines) lines survey
-
--- the line that a row is, where it is a text
-abbrev pub text_in : LineStatus → List Line
-text_in blank = []
-text_in (refused fault) = []
-text_in (parsed t) = whole_line t ∷ []
-
--- the lines among rows (RFC 8259; profile)
-abbrev pub texts_in : List (List ℕ) → List Line
-texts_in rows = flat_map (λ row. text_in (status_of framings.Lines row)) rows
-
--- what came before some bytes that came last
-abbrev pub before_last : (came last : List ℕ) → List ℕ
-before_last came last = take (length came - length last) came

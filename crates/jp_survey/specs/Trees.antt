@@ -1,10 +1,10 @@
 -- The tree of the paths of nodes.
-use Rattle.std.specs.Prelude.{◌≡◌, ℕ, ◌<◌, List, ◌++◌, length, replicate, slice_get, slice_index_or, Some, true, false}
+use Rattle.std.specs.Prelude.{◌≡◌, ℕ, ◌+◌, ◌<◌, List, ◌++◌, length, replicate, slice_get, slice_index_or, Some, true, false}
 use Rattle.jp_nodes.specs.Cursors.{index_of, name_of}
 use Rattle.jp_nodes.specs.declared.cursor.Cursor.{Cursor}
 use Rattle.jp_model.specs.Meaning.Nodes.{Node, step_to}
 use Rattle.jp_survey.specs.Counts.{Counted, CountedBeside, no_counts}
-use Rattle.jp_survey.specs.Foldings.{folded_below, folded_by}
+use Rattle.jp_survey.specs.Foldings.{folded_by}
 use Rattle.jp_survey.specs.Paths.{Line, Mark, Path, Stride, stride_of, strides_of}
 use Rattle.jp_survey.specs.Places.{AreApart, AreLinked, ArePlaces, IsKnown, folds_of, has_path, is_named, is_rest, is_start, names_in, path_at, paths_of}
 use Rattle.jp_survey.specs.Surveys.{shown_by}
@@ -64,10 +64,10 @@ pub record Leads (tree : Tree) (parent : ℕ) (step : Step) : Type 0 where
   pub told : (is_start step ≡ false) × (is_rest step ≡ false)
   pub apart : is_named step ≡ true → has_path (tree_folds tree) (path_at (tree_paths tree) parent) ≡ false
 
--- The places of the first nodes of a text are known: each has the path of its node, which goes on from that of a place.
-abbrev pub AreKnown : Tree → (top : ℕ) → List Node → ℕ → Type 0
-AreKnown tree top nodes n = (j : ℕ) (node : Node) → j < n → slice_get nodes j ≡ Some node
-    → (j < length tree.places.items) × IsPlaceAt tree (slice_index_or tree.places.items j 0) (folded_below (tree_folds tree) (path_at (tree_paths tree) top) (strides_of node.location))
+-- The places of some nodes of a line are known, from the number `first` on and before `n`: each has the path of its node.
+abbrev pub AreKnown : Tree → List Node → (first n : ℕ) → Type 0
+AreKnown tree nodes first n = (k : ℕ) (node : Node) → first + k < n → slice_get nodes (first + k) ≡ Some node
+    → (k < length tree.places.items) × IsPlaceAt tree (slice_index_or tree.places.items k 0) (folded_by (tree_folds tree) (strides_of node.location))
 
 -- A tree has counted the nodes of lines, each at the place of its path.
 abbrev pub AreCounted : List Line → Tree → Type 0

@@ -1,223 +1,126 @@
-//! A writer of rows that surveys them.
+//! A sink that surveys the nodes that it is told.
 
-ghost use Rattle.std.specs.Prelude.{◌≡◌, ◌++◌, [], ℕ, List, IfOk, IfSome, OnOk, false};
-ghost use Rattle.std.specs.Io.{WritesAtMost};
+ghost use Rattle.std.specs.Prelude.{◌≡◌, ◌++◌, ◌∷◌, [], ℕ, IfOk, List, OnOk, Some, false, is_err};
 ghost use Rattle.std.proofs.Props.{props};
-ghost use Rattle.jp_devices.specs.Devices.{Grew};
-ghost use Rattle.jp_model.specs.Lines.{open_line, text_lines};
+ghost use Rattle.jp_nodes.specs.Cursors.{node_of};
 ghost use Rattle.jp_survey.specs.Places.{IsKnown-prop};
-ghost use Rattle.jp_survey.specs.Seen.{HasTaken, IsSurveyed, IsTakenInto};
-ghost use Rattle.jp_survey.specs.Surveys.{Entry, before_last};
-ghost use Rattle.jp_survey.specs.Texts.{WritesSurvey, is_write_fault, survey_text};
-ghost use Rattle.jp_survey.specs.Trees.{IsTree, folded_of, names_of};
-ghost use Rattle.jp_survey.specs.declared.input.Surveyed.TheVariants as kinds;
+ghost use Rattle.jp_survey.specs.Seen.{HasBegun, HasTold};
+ghost use Rattle.jp_survey.specs.Told.{Told, line_so_far, lines_before, lines_in, within};
+ghost use Rattle.jp_survey.specs.Trees.{HasCounted, IsTree, folded_of, names_of};
 
 use crate::fault::SurveyFault;
-use crate::input::{Surveyed, count_rows};
 use crate::order::order_places;
 use crate::text::text_of;
 use crate::tree::Tree;
 use jp_devices::{Watched, write_whole};
 use jp_form::Table;
-use jp_lines::BatchRoom;
-use memchr::memrchr;
+use jp_nodes::Cursor;
+use jp_sink::{Sink, Untold};
 use std::alloc::{AllocError, Global};
-use std::io::{self, Sink, Write};
+use std::io::Write;
 
-/// How many bytes are read together at least.
-const LEAST: usize = 1 << 16;
-
-/// The bytes up to the last line feed, and what follows it.
-fn cut_last(bytes: &[u8]) -> Option<(&[u8], &[u8])>
-    ensures parts { IfSome result (λ cut. bytes.now ≡ cut.0.now ++ cut.1.now) }
-    ensures ended { (front : List ℕ) → IfSome result (λ cut. open_line (front ++ cut.0.now) ≡ []) }
-{
-    let Some(last) = memrchr(b'\n', bytes) else {
-        return None;
-    };
-    Some(bytes.split_at(last + 1))
-}
-
-/// The rows that came, each ended by a line feed, and what is in them. It is a writer, and a row may come in pieces.
+/// What is in the nodes that a search told: nodes of one number that follow one another, with no gap between, are of one line.
 #[derive(Drop)]
 pub struct Survey {
     alloc: Global,
-    surveyed: Surveyed,
     /// How many names an object has at most that is not folded.
     fold: u64,
-    room: BatchRoom,
     tree: Tree,
-    /// The number of the line of the row that was counted last, where rows tell of nodes one by one.
-    number: Vec<u8>,
-    /// What came since rows were counted.
-    fresh: Vec<u8>,
-    /// How many bytes are to come before rows are counted again.
-    wanted: usize,
-    /// All that came, which proofs alone see: nothing is written anywhere.
-    came: Watched<Sink>,
+    /// The number of the line of the node that came last, where it may go on.
+    number: Option<u64>,
+    /// Whether memory ran out, after which it is of no use.
     is_full: bool,
-    ghost whole: { is_full ≡ false → came.taken ≡ before_last came.taken fresh.items ++ fresh.items },
-    ghost ended: { is_full ≡ false → open_line (before_last came.taken fresh.items) ≡ [] },
     ghost is_tree: { is_full ≡ false → IsTree tree } by { Prim.hlevel (props, IsKnown-prop) },
-    ghost taken: { is_full ≡ false → HasTaken surveyed fold (text_lines (before_last came.taken fresh.items)) number.items tree },
+}
+
+/// Begins a line, unless the one that goes on has this number.
+fn go_on(tree: &mut Tree, number: &mut Option<u64>, next: u64) -> Result<(), AllocError>
+    requires { IsTree tree.old }
+    ensures tree { OnOk result (IsTree tree.new) }
+    ensures number { OnOk result (number.new ≡ Some next) }
+    ensures begun { (fold : ℕ) (told : Told) → HasTold fold told number.old tree.old → OnOk result (HasBegun fold (lines_before told next) (line_so_far told next) tree.new) }
+{
+    if *number == Some(next) {
+        return Ok(());
+    }
+    tree.begin_line()?;
+    *number = Some(next);
+    Ok(())
+}
+
+/// Counts a node of the line of a number, and all that is in it.
+fn count_node(
+    tree: &mut Tree,
+    number: &mut Option<u64>,
+    next: u64,
+    node: Cursor<'_>,
+) -> Result<(), AllocError>
+    requires { IsTree tree.old }
+    ensures tree { OnOk result (IsTree tree.new) }
+    ensures told { (fold : ℕ) (told : Told) → HasTold fold told number.old tree.old
+        → OnOk result (HasTold fold (within (lines_before told next) next (line_so_far told next ++ node_of node.entry ∷ [])) number.new tree.new) }
+{
+    go_on(tree, number, next)?;
+    tree.count_node(node)
 }
 
 impl Survey {
-    /// A survey of no row yet, in which an object is folded that has more than `fold` names. Each row is to be the text of a line.
+    ghost use Rattle.jp_sink.specs.Events.{Event};
+    ghost use Rattle.jp_survey.specs.Held.{HasSurveyed};
+    ghost use Rattle.jp_survey.specs.Surveys.{Entry, IsSurvey};
+    ghost use Rattle.jp_survey.specs.Texts.{WritesSurvey, is_write_fault, survey_text};
+    ghost use Rattle.jp_survey.specs.Told.{lines_told};
+
+    /// A survey that was told nothing yet, in which an object is folded that has more than `fold` names.
     ///
     /// # Errors
     ///
     /// Memory ran out.
     pub fn new(alloc: Global, fold: u64) -> Result<Survey, AllocError>
-        ensures came { IfOk result (λ survey. survey.came.taken ≡ []) }
+        ensures told { IfOk result (λ survey. HasSurveyed survey []) }
         ensures full { IfOk result (λ survey. survey.is_full ≡ false) }
         ensures fold { IfOk result (λ survey. survey.fold ≡ fold) }
-        ensures surveyed { IfOk result (λ survey. survey.surveyed ≡ kinds.Lines) }
     {
-        let tree = Tree::new(alloc, fold)?;
-        Ok(Survey::over(alloc, Surveyed::Lines, fold, tree))
-    }
-
-    /// The same of nodes one by one. Each row is to have the number of a line, a colon, the normalized path of a node of it (RFC
-    /// 9535, section 2.7), a tab, and the node's text. Rows of a number that follow one another are of one line; an empty row parts
-    /// lines too.
-    ///
-    /// # Errors
-    ///
-    /// Memory ran out.
-    pub fn of_nodes(alloc: Global, fold: u64) -> Result<Survey, AllocError>
-        ensures came { IfOk result (λ survey. survey.came.taken ≡ []) }
-        ensures full { IfOk result (λ survey. survey.is_full ≡ false) }
-        ensures fold { IfOk result (λ survey. survey.fold ≡ fold) }
-        ensures surveyed { IfOk result (λ survey. survey.surveyed ≡ kinds.Nodes) }
-    {
-        let mut tree = Tree::new(alloc, fold)?;
-        tree.begin_line()?;
-        Ok(Survey::over(alloc, Surveyed::Nodes, fold, tree))
-    }
-
-    /// A survey of no row yet, with its tree.
-    fn over(alloc: Global, surveyed: Surveyed, fold: u64, tree: Tree) -> Survey
-        requires tree { IsTree tree }
-        requires taken { HasTaken surveyed fold [] [] tree }
-        ensures came { result.came.taken ≡ [] }
-        ensures full { result.is_full ≡ false }
-        ensures fold { result.fold ≡ fold }
-        ensures surveyed { result.surveyed ≡ surveyed }
-    {
-        Survey {
+        Ok(Survey {
             alloc,
-            surveyed,
             fold,
-            room: BatchRoom::new(alloc),
-            tree,
-            number: Vec::new(alloc),
-            fresh: Vec::new(alloc),
-            wanted: LEAST,
-            came: Watched::new(io::sink()),
+            tree: Tree::new(alloc, fold)?,
+            number: None,
             is_full: false,
-        }
+        })
     }
 
-    /// Whether a write failed for want of memory.
-    pub fn is_full(&self) -> bool
-        ensures { result ≡ self.now.is_full }
-    {
-        self.is_full
-    }
-
-    /// Counts the rows that came since. If memory is refused, it is full.
-    fn count(&mut self) -> Result<(), AllocError>
-        ensures came { self.new.came ≡ self.old.came }
-        ensures full { OnOk result (self.new.is_full ≡ self.old.is_full) }
+    /// Counts a node of the line of a number, and all that is in it. If memory is refused, it is full.
+    fn count(&mut self, number: u64, node: Cursor<'_>) -> Result<(), AllocError>
+        requires { self.old.is_full ≡ false }
+        ensures told { (told : Told) → HasTold self.old.fold told self.old.number self.old.tree
+            → OnOk result (HasTold self.old.fold (within (lines_before told number) number (line_so_far told number ++ node_of node.entry ∷ [])) self.new.number self.new.tree) }
+        ensures full { self.new.is_full ≡ is_err result }
         ensures fold { self.new.fold ≡ self.old.fold }
-        ensures surveyed { self.new.surveyed ≡ self.old.surveyed }
     {
-        if self.is_full {
-            return Err(AllocError);
-        }
-        let alloc = self.alloc;
-        let Some((rows, left)) = cut_last(&self.fresh) else {
-            return Ok(());
-        };
-        let rest = Vec::from_slice(alloc, left)?;
         self.is_full = true;
-        count_rows(
-            self.surveyed,
-            &mut self.room,
-            &mut self.tree,
-            &mut self.number,
-            rows,
-        )?;
-        self.fresh = rest;
+        count_node(&mut self.tree, &mut self.number, number, node)?;
         self.is_full = false;
         Ok(())
     }
-}
 
-impl Survey {
-    /// Counts the rows that came since, once they are many bytes.
-    fn make_room(&mut self) -> Result<(), AllocError>
-        ensures came { self.new.came ≡ self.old.came }
-        ensures full { OnOk result (self.new.is_full ≡ self.old.is_full) }
-        ensures fold { self.new.fold ≡ self.old.fold }
-        ensures surveyed { self.new.surveyed ≡ self.old.surveyed }
-    {
-        if self.fresh.len() < self.wanted {
-            return Ok(());
-        }
-        self.count()?;
-        self.wanted = self.fresh.len().saturating_mul(2).max(LEAST);
-        Ok(())
-    }
-
-    /// Takes bytes of rows, and gives how many it took: all of them.
-    fn take(&mut self, bytes: &[u8]) -> io::Result<usize>
-        ensures bound { WritesAtMost result bytes.now }
-        ensures bytes { Grew self.old.came.taken self.new.came.taken result bytes.now }
-        ensures full { OnOk result (self.new.is_full ≡ self.old.is_full) }
-        ensures fold { self.new.fold ≡ self.old.fold }
-        ensures surveyed { self.new.surveyed ≡ self.old.surveyed }
-    {
-        if self.make_room().is_err() {
-            return Err(io::ErrorKind::OutOfMemory.into());
-        }
-        let before = self.fresh.len();
-        if self.fresh.extend_from_slice(bytes).is_err() {
-            return Err(io::ErrorKind::OutOfMemory.into());
-        }
-        let taken = self.came.write(bytes);
-        match &taken {
-            Ok(count) => self.fresh.truncate(before + *count),
-            Err(_) => self.fresh.truncate(before),
-        }
-        taken
-    }
-}
-
-impl Survey {
-    /// Counts all rows that came, and folds the objects that have too many names. It is full then.
+    /// Folds the objects that have too many names. It is full then.
     fn finish(&mut self) -> Result<(), AllocError>
         ensures tree { OnOk result (IsTree self.new.tree) }
-        ensures taken { OnOk result (IsTakenInto self.old.surveyed self.old.fold (names_of self.new.tree) (text_lines self.old.came.taken) (folded_of self.new.tree)) }
+        ensures counted { (told : Told) → (self.old.is_full ≡ false → HasTold self.old.fold told self.old.number self.old.tree)
+            → OnOk result (HasCounted self.old.fold (names_of self.new.tree) (lines_in told) (folded_of self.new.tree)) }
     {
         if self.is_full {
             return Err(AllocError);
         }
         self.is_full = true;
-        count_rows(
-            self.surveyed,
-            &mut self.room,
-            &mut self.tree,
-            &mut self.number,
-            &self.fresh,
-        )?;
         self.tree.fold_objects()
     }
 
-    /// The text of the survey of the rows that came. It is full then.
+    /// The text of the survey. It is full then.
     fn text(&mut self, table: Table, has_names: bool) -> Result<Vec<u8>, AllocError>
-        ensures { IfOk result (λ text. (survey : List Entry) × IsSurveyed self.old.surveyed self.old.fold (text_lines self.old.came.taken) survey × (text.items ≡ survey_text table has_names survey)) }
+        ensures { (told : List Event) → HasSurveyed self.old told
+            → IfOk result (λ text. (survey : List Entry) × IsSurvey self.old.fold (lines_told told) survey × (text.items ≡ survey_text table has_names survey)) }
     {
         self.finish()?;
         let tree = &self.tree;
@@ -225,10 +128,9 @@ impl Survey {
         text_of(self.alloc, table, has_names, tree, &order)
     }
 
-    /// Writes what is in the lines or the nodes of the rows that came: for each path and kind of value one row, in order, with in how
-    /// many lines there is such a node and how many there are. Objects of too many names are folded, from the top down, and below one
-    /// that is folded a hyphen stands for the number of lines. A row with no JSON text has no node. Above all stands the row of the
-    /// names of the columns, where it is wanted.
+    /// Writes what is in the nodes that were told: for each path and kind of value one row, in order, with in how many lines there is
+    /// such a node and how many there are. Objects of too many names are folded, from the top down, and below one that is folded a
+    /// hyphen stands for the number of lines. Above all stands the row of the names of the columns, where it is wanted.
     ///
     /// # Errors
     ///
@@ -240,7 +142,8 @@ impl Survey {
         out: &mut Watched<W>,
     ) -> Result<(), SurveyFault>
         requires { out.old.failed ≡ false }
-        ensures rows { WritesSurvey W.contents out.old out.new result (IsSurveyed self.surveyed self.fold (text_lines self.came.taken)) table has_names }
+        ensures rows { (told : List Event) → HasSurveyed self told
+            → WritesSurvey W.contents out.old out.new result (IsSurvey self.fold (lines_told told)) table has_names }
         ensures fault { out.new.failed ≡ is_write_fault result }
     {
         let mut survey = self;
@@ -254,30 +157,40 @@ impl Survey {
     }
 }
 
-/// The bytes that it has are those that came. A write fails where memory is refused, and the survey is then of no use.
-impl Write for Survey {
-    ghost use Rattle.std.specs.Prelude.{◌||◌, Some, is_err};
+/// It takes nodes and passes over rows. A node fails it where memory is refused, and it is then of no use.
+impl Sink for Survey {
+    ghost use Rattle.jp_survey.specs.Held.{HasSurveyed};
 
-    ghost contents = { λ survey. Some survey.came.taken };
+    ghost stands = { λ survey told. HasSurveyed survey told };
 
-    fn write(&mut self, bytes: &[u8]) -> io::Result<usize>
-        ensures bound { WritesAtMost result bytes.now }
-        ensures bytes { Grew self.old.came.taken self.new.came.taken result bytes.now }
-        ensures full { self.new.is_full ≡ (self.old.is_full || is_err result) }
-        ensures fold { self.new.fold ≡ self.old.fold }
-        ensures surveyed { self.new.surveyed ≡ self.old.surveyed }
-    {
-        let taken = self.take(bytes);
-        self.is_full |= taken.is_err();
-        taken
+    ghost stopped = { λ survey told. Unit {0} };
+
+    ghost state = { λ survey. record { failed = survey.is_full; unflushed = false; after = 0; settings = survey.fold ∷ [] } };
+
+    fn gap(&mut self) {
+        self.number = None;
     }
 
-    fn flush(&mut self) -> io::Result<()>
-        ensures bytes { self.new.came.taken ≡ self.old.came.taken }
-        ensures full { self.new.is_full ≡ self.old.is_full }
-        ensures fold { self.new.fold ≡ self.old.fold }
-        ensures surveyed { self.new.surveyed ≡ self.old.surveyed }
-    {
+    fn row(&mut self, _is_selected: bool, _text: &[u8]) -> Result<(), Untold> {
         Ok(())
+    }
+
+    fn node(&mut self, number: u64, node: Cursor<'_>) -> Result<(), Untold> {
+        match self.count(number, node) {
+            Ok(()) => Ok(()),
+            Err(_) => Err(Untold::Sink),
+        }
+    }
+
+    fn flush(&mut self) -> Result<(), Untold> {
+        Ok(())
+    }
+
+    fn is_unflushed(&self) -> bool {
+        false
+    }
+
+    fn has_failed(&self) -> bool {
+        self.is_full
     }
 }

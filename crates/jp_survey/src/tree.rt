@@ -2,12 +2,11 @@
 
 ghost use Rattle.std.specs.Prelude.{◌≡◌, ◌+◌, ◌++◌, ◌∷◌, ◌<◌, [], ℕ, IfOk, IfSome, List, None, OnOk, chars, false, length, slice_index_or, string_bytes, true};
 ghost use Rattle.jp_model.specs.Meaning.Nodes.{root_node, subtree};
-ghost use Rattle.jp_model.specs.Steps.{Step as TreeStep};
 ghost use Rattle.jp_nodes.specs.Cursors.{node_of, place_of, root_of};
 ghost use Rattle.jp_strings.specs.Points.{IsText, points_of};
-ghost use Rattle.jp_survey.specs.Foldings.{folded_below, is_over, longer};
+ghost use Rattle.jp_survey.specs.Foldings.{folded_by, is_over, longer};
 ghost use Rattle.jp_survey.specs.Justified.{WithPath};
-ghost use Rattle.jp_survey.specs.Paths.{Line, member, strides_of, whole_line};
+ghost use Rattle.jp_survey.specs.Paths.{Line, member, strides_of};
 ghost use Rattle.jp_survey.specs.Places.{has_path, path_at, stride_in};
 ghost use Rattle.jp_survey.specs.Seen.{HasBegun, HasCome, HasSeen};
 ghost use Rattle.jp_survey.specs.Trees.{AreKnown, Grows, IsPlaceAt, IsTree, Leads, links_of, names_of, stride_to, tree_folds, tree_paths};
@@ -32,7 +31,7 @@ pub(crate) struct Tree {
     pub(crate) counts: Counts,
     /// The place that came after each the last time: lines look alike.
     followers: Vec<usize>,
-    /// The places of the nodes of a line.
+    /// The places of the nodes that are counted together: of one that is told and all that is in it.
     places: Vec<usize>,
     /// How many lines came.
     lines: u64,
@@ -133,22 +132,7 @@ impl Tree {
         self.add(parent, Step::Member(number))
     }
 
-    /// The place of a member: by its name, or with all others where the object is folded.
-    pub(crate) fn named_place(&mut self, parent: usize, name: String) -> Result<usize, AllocError>
-        requires tree { IsTree self.old }
-        requires parent { parent < length (links_of self.old) }
-        ensures tree { OnOk result (IsTree self.new) }
-        ensures grows { OnOk result (Grows self.old self.new) }
-        ensures place { IfOk result (λ place. IsPlaceAt self.new place (longer (tree_folds self.old) (path_at (tree_paths self.old) parent) (member (chars (string_bytes name))))) }
-        ensures path { OnOk result (WithPath (tree_paths self.old) (longer (tree_folds self.old) (path_at (tree_paths self.old) parent) (member (chars (string_bytes name)))) (tree_paths self.new)) }
-    {
-        match self.others_place(parent) {
-            Some(place) => Ok(place),
-            None => self.add_member(parent, name),
-        }
-    }
-
-    /// The same by the body of its name.
+    /// The place of a member by the body of its name: its own, or that of all others where the object is folded.
     fn member_place(&mut self, parent: usize, body: &[u8]) -> Result<usize, AllocError>
         requires tree { IsTree self.old }
         requires parent { parent < length (links_of self.old) }
@@ -217,7 +201,7 @@ impl Tree {
 
     /// The place of a node below a place, which comes after the node of another.
     #[inline(always)]
-    fn next_place(
+    pub(crate) fn next_place(
         &mut self,
         before: usize,
         parent: usize,
@@ -238,35 +222,33 @@ impl Tree {
         Ok(place)
     }
 
-    /// The place of a node, which comes after the node of another place. `top` is the place of the node whose text it is of, and the
-    /// places of the nodes before it are known.
+    /// The place of a node, which comes after the node of another place. It is the node of the number `first` in its line, whose
+    /// place is `top`, or below that, and the places of the nodes from that one up to it are known.
     #[inline(always)]
-    fn place_of(&mut self, top: usize, before: usize, node: Cursor<'_>) -> Result<usize, AllocError>
+    fn place_of(
+        &mut self,
+        first: u32,
+        top: usize,
+        before: usize,
+        node: Cursor<'_>,
+    ) -> Result<usize, AllocError>
         requires tree { IsTree self.old }
-        requires top { top < length (links_of self.old) }
-        requires known { AreKnown self.old top (subtree (root_node (root_of node))) (place_of node) }
+        requires top { place_of node ≡ first → IsPlaceAt self.old top (folded_by (tree_folds self.old) (strides_of (node_of node).location)) }
+        requires known { AreKnown self.old (subtree (root_node (root_of node))) first (place_of node) }
         ensures tree { OnOk result (IsTree self.new) }
         ensures grows { OnOk result (Grows self.old self.new) }
-        ensures place { IfOk result (λ place. IsPlaceAt self.new place (folded_below (tree_folds self.old) (path_at (tree_paths self.old) top) (strides_of (node_of node.entry).location))) }
-        ensures path { OnOk result (WithPath (tree_paths self.old) (folded_below (tree_folds self.old) (path_at (tree_paths self.old) top) (strides_of (node_of node.entry).location)) (tree_paths self.new)) }
+        ensures place { IfOk result (λ place. IsPlaceAt self.new place (folded_by (tree_folds self.old) (strides_of (node_of node.entry).location))) }
+        ensures path { OnOk result (WithPath (tree_paths self.old) (folded_by (tree_folds self.old) (strides_of (node_of node.entry).location)) (tree_paths self.new)) }
     {
-        let Some(parent) = node.parent() else {
+        if node.place() == first {
             return Ok(top);
+        }
+        let Some(parent) = node.parent() else {
+            return Err(AllocError);
         };
-        let above = *self.places.get(parent.place() as usize).ok_or(AllocError)?;
+        let number = parent.place().checked_sub(first).ok_or(AllocError)?;
+        let above = *self.places.get(number as usize).ok_or(AllocError)?;
         self.next_place(before, above, node)
-    }
-
-    /// Counts a line that is this text.
-    pub(crate) fn count_text(&mut self, root: Cursor<'_>) -> Result<(), AllocError>
-        requires tree { IsTree self.old }
-        requires place { place_of root ≡ 0 }
-        requires root { node_of root ≡ root_node (root_of root) }
-        ensures tree { OnOk result (IsTree self.new) }
-        ensures seen { (fold : ℕ) (lines : List Line) → HasSeen fold lines self.old → OnOk result (HasSeen fold (lines ++ whole_line (root_of root.entry) ∷ []) self.new) }
-    {
-        self.begin_line()?;
-        self.count_nodes(0, root)
     }
 
     /// The number of the next line.
@@ -288,22 +270,21 @@ impl Tree {
         Ok(())
     }
 
-    /// Counts a node of the line that has begun, and all that is in it, by the root of its text. `top` is its place.
-    pub(crate) fn count_nodes(&mut self, top: usize, root: Cursor<'_>) -> Result<(), AllocError>
+    /// Counts a node of the line that has begun, and all that is in it. `top` is its place.
+    pub(crate) fn count_nodes(&mut self, top: usize, node: Cursor<'_>) -> Result<(), AllocError>
         requires tree { IsTree self.old }
-        requires top { top < length (links_of self.old) }
-        requires place { place_of root ≡ 0 }
-        requires root { node_of root ≡ root_node (root_of root) }
+        requires top { IsPlaceAt self.old top (folded_by (tree_folds self.old) (strides_of (node_of node).location)) }
         ensures tree { OnOk result (IsTree self.new) }
-        ensures begun { (fold : ℕ) (lines : List Line) (line : Line) (location : List TreeStep) → HasCome fold lines line location top self.old → OnOk result (HasBegun fold lines (line ++ record { location = location; tree = root_of root.entry } ∷ []) self.new) }
+        ensures begun { (fold : ℕ) (lines : List Line) (line : Line) → HasCome fold lines line (node_of node.entry).location self.old → OnOk result (HasBegun fold lines (line ++ node_of node.entry ∷ []) self.new) }
     {
         let line = self.lines;
         self.places.clear();
+        let first = node.place();
         let mut before = top;
-        for number in 0..root.after() {
-            let node = root.go_to(number);
-            let place = self.place_of(top, before, node)?;
-            self.counts.count(place, NodeKind::of(node.kind()), line)?;
+        for number in first..node.after() {
+            let below = node.go_to(number);
+            let place = self.place_of(first, top, before, below)?;
+            self.counts.count(place, NodeKind::of(below.kind()), line)?;
             self.places.push(place)?;
             before = place;
         }

@@ -1,5 +1,5 @@
 -- Entries that are joined where they are of one row.
-use Rattle.std.proofs.Common.{◌≡◌, ◌∙◌, ℕ, List, [], ◌∷◌, ◌++◌, ◌+◌, ◌<◌, append_assoc, drop, length, get_or, ap, sym, arith, true, false, if◌then◌else◌}
+use Rattle.std.proofs.Common.{◌≡◌, ◌∙◌, ℕ, List, [], ◌∷◌, ◌+◌, ◌<◌, drop, length, get_or, ap, sym, arith, true, false, if◌then◌else◌}
 use Rattle.std.specs.Prelude.{suc}
 use Rattle.std.specs.Str.{bytes_eq}
 use Rattle.std.specs.Cmp.Lexicographic.{same_text}
@@ -59,7 +59,3 @@ turn_other others i d row count h other =
     let next = get_or others i d in
     ap (λ l. lead (entry row count) (joined l)) (next_of others i d h)
     ∙ lead_other (entry row count) (entry next.row.now next.count) (joined (entries_of_counted (drop (i + 1) others))) other
-
--- what was left begins with what is kept now
-pub kept_more : (was now piece : List ℕ) (left rest : List Entry) (f : List Entry → List ℕ) (all : List ℕ) → was ++ f left ≡ all → f left ≡ piece ++ f rest → now ≡ was ++ piece → now ++ f rest ≡ all
-kept_more was now piece left rest f all before is more = ap (λ l. l ++ f rest) more ∙ (append_assoc was piece (f rest) ∙ (ap (λ l. was ++ l) (sym is) ∙ before))

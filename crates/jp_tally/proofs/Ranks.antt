@@ -1,6 +1,6 @@
 -- Entries of rows that ascend, in the order of a tally, are the tally.
 use Rattle.std.proofs.Common.{◌≡◌, ◌∙◌, ℕ, List, [], ◌∷◌, ◌+◌, ◌<◌, length, get_or, ap, refl, sym, subst, arith, true, false, cond, min}
-use Rattle.std.specs.Prelude.{nat_lt, All, IfOk, Result, Ok, Err}
+use Rattle.std.specs.Prelude.{All, IfOk, Result, Ok, Err}
 use Rattle.std.specs.List.{list_all}
 use Rattle.std.specs.List.Sorted.{IsPermutation, IsSorted}
 use Rattle.std.specs.Str.{bytes_eq}
@@ -17,7 +17,6 @@ use Rattle.std.proofs.lemmas.List.Sums.{AllPass-from_list_all, sum_by-cons}
 use Rattle.std.proofs.lemmas.Map.Text.{is_eq-slice_cmp}
 use Rattle.jp_tally.specs.Counting.{ascends, entries_of_ranked, is_below, is_entry, weight}
 use Rattle.jp_tally.specs.declared.ranked.Ranked.{Ranked}
-use Rattle.jp_tally.specs.Rows.{is_row}
 use Rattle.jp_tally.specs.Tallies.{Entry, IsTally, entries_with, entry_cmp, times}
 use Rattle.jp_tally.proofs.Ascending.{both, order}
 use Rattle.jp_tally.proofs.Weights.{weight-cons}
@@ -61,7 +60,7 @@ once_each row [] are up = refl
 once_each row (e ∷ more) are up =
     let parts = both (is_below e.row more) (ascends more) up in
     let each = both (is_entry e) (list_all is_entry more) are in
-    let counted : 0 < e.count = let test = (both (is_row e.row) (nat_lt 0 e.count) each.0).1 in grind (arith, common_steps) in
+    let counted : 0 < e.count = let test = each.0 in grind (arith, common_steps) in
     elim (bytes_eq row e.row) as (λ t. bytes_eq row e.row ≡ t → entries_with row (e ∷ more) ≡ min 1 (weight row (e ∷ more))) [
       | true ↦ λ same.
           let is : row ≡ e.row = same_text row e.row (sym same) in
@@ -95,7 +94,7 @@ ranked_in_order (first ∷ more) h k d low l =
     ∙ (ap (λ e. is_lt (entry_cmp (entry_of (get_or rows (k + 1) first)) e)) here ∙ h k first (omega arith) (omega arith))
 
 is_positive : (e : Entry) → is_entry e ≡ true → 0 < e.count
-is_positive e h = let test = (both (is_row e.row) (nat_lt 0 e.count) h).1 in grind (arith, common_steps)
+is_positive e h = grind (arith, common_steps)
 
 -- each entry of rows that ascend has the count of its row
 own_counts : (entries : List Entry) → list_all is_entry entries ≡ true → ascends entries ≡ true → All (λ (e : Entry). e.count ≡ weight e.row entries) entries

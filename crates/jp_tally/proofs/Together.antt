@@ -1,6 +1,6 @@
 -- Rows that are counted together with entries.
 use Rattle.std.proofs.Common.{◌≡◌, ◌∙◌, ℕ, List, [], ◌∷◌, ◌++◌, ◌+◌, ◌<◌, length, get_or, ap, refl, sym, subst, arith, Bool, true, false}
-use Rattle.std.specs.Prelude.{suc, not}
+use Rattle.std.specs.Prelude.{suc, not, IfOk, OnErr, OnOk, Result, Ok, Err}
 use Rattle.std.specs.List.{list_all}
 use Rattle.std.specs.List.Sorted.{IsPermutation}
 use Rattle.std.specs.Ordering.{is_lt, nat_cmp, ordering_then}
@@ -9,16 +9,14 @@ use Rattle.std.specs.declared.cmp.Ordering.TheVariants.{Less, Equal, Greater}
 use Rattle.std.proofs.lemmas.List.Folds.{list_all-append}
 use Rattle.std.proofs.lemmas.List.Sorted.{All-permutation, IsPermutation-map, sum_by-IsPermutation}
 use Rattle.std.proofs.lemmas.List.Sums.{AllPass-from_list_all, list_all-from_AllPass}
-use Rattle.jp_tally.specs.Counting.{HasCounted, come_once, counts_of, entries_in, entries_of_counted, is_entry, joined, kept_entries, rows_text, weight}
-use Rattle.jp_tally.specs.Rows.{rest_behind, rest_of, rows_behind, rows_of}
-use Rattle.jp_tally.specs.Tallies.{Entry, times}
+use Rattle.jp_tally.specs.Counting.{HasCounted, entries_of, entries_of_counted, is_entry, joined, weight}
+use Rattle.jp_tally.specs.Tallies.{Entry}
 use Rattle.jp_tally.specs.declared.counted.Counted.{Counted}
-use Rattle.jp_tally.specs.declared.kept.Kept.{Kept}
+use Rattle.jp_tally.specs.declared.rows.Rows.{Rows}
 use Rattle.jp_tally.proofs.Ascending.{and_true, joined_ascends, order, rises}
-use Rattle.jp_tally.proofs.Cuts.{plain, rest_is, rest_seam, rows_are, seam}
 use Rattle.jp_tally.proofs.Joining.{entry}
-use Rattle.jp_tally.proofs.Made.{given_back, joined_are, once_are}
-use Rattle.jp_tally.proofs.Weights.{share, times-append, weight-append, weight-joined, weight-once}
+use Rattle.jp_tally.proofs.Made.{joined_are}
+use Rattle.jp_tally.proofs.Weights.{share, weight-append, weight-joined}
 
 -- no listed row is below the one before it
 abbrev pub comes : List Counted → ℕ → ℕ → Counted → Bool
@@ -52,45 +50,25 @@ moved_weight : (row : List ℕ) (listed sorted : List Counted) → IsPermutation
 moved_weight row listed sorted moved =
     sum_by-IsPermutation (share row) _ _ (IsPermutation-map (λ (c : Counted). entry c.row.now c.count) listed sorted moved)
 
--- rows of entries and of a text, listed, sorted and joined
-pub counted_together : (before : List Entry) (text : List ℕ) (listed sorted : List Counted) (kept : Kept) → list_all is_entry before ≡ true
-    → entries_of_counted listed ≡ before ++ come_once (rows_of text) → IsPermutation listed sorted → IsListedInOrder sorted
-    → kept.text.items ≡ rows_text (joined (entries_of_counted sorted)) → kept.counts.items ≡ counts_of (joined (entries_of_counted sorted))
-    → HasCounted before text (kept_entries kept)
-counted_together before text listed sorted kept are is moved up made counted =
-    let all : list_all is_entry (entries_of_counted listed) ≡ true =
-    ap (list_all is_entry) is ∙ (list_all-append is_entry before (come_once (rows_of text)) ∙ and_true _ _ are (once_are (rows_of text) (rows_are [] text refl))) in
-    let result = joined (entries_of_counted sorted) in
-    let result_are = joined_are (entries_of_counted sorted) (moved_are listed sorted moved all) in
-    let same : result ≡ kept_entries kept =
-    sym (given_back result result_are) ∙ (ap (λ t. entries_in (rows_of t) (counts_of result)) (sym made) ∙ ap (λ l. entries_in (rows_of kept.text.items) l) (sym counted)) in
-    subst (HasCounted before text) same (record {
-      weights = λ row. weight-joined row (entries_of_counted sorted) ∙ (moved_weight row listed sorted moved
-          ∙ (ap (weight row) is ∙ (weight-append row before (come_once (rows_of text)) ∙ ap (λ n. weight row before + n) (weight-once row (rows_of text)))));
-      entries = result_are;
+-- entries that are listed, sorted and joined
+pub counted_together : (before fresh : List Entry) (listed sorted : List Counted) (kept : List Entry) → list_all is_entry before ≡ true → list_all is_entry fresh ≡ true
+    → entries_of_counted listed ≡ before ++ fresh → IsPermutation listed sorted → IsListedInOrder sorted → kept ≡ joined (entries_of_counted sorted) → HasCounted before fresh kept
+counted_together before fresh listed sorted kept are came is moved up same =
+    let all : list_all is_entry (entries_of_counted listed) ≡ true = ap (list_all is_entry) is ∙ (list_all-append is_entry before fresh ∙ and_true _ _ are came) in
+    subst (HasCounted before fresh) (sym same) (record {
+      weights = λ row. weight-joined row (entries_of_counted sorted) ∙ (moved_weight row listed sorted moved ∙ (ap (weight row) is ∙ weight-append row before fresh));
+      entries = joined_are (entries_of_counted sorted) (moved_are listed sorted moved all);
       order = joined_ascends (entries_of_counted sorted) (in_order sorted up);
     })
 
--- counting goes on: what was fresh is counted, and what follows its last line feed is left
-pub still_counted : (before : List Entry) (text : List ℕ) (after : List Entry) (rest came : List ℕ) → HasCounted before text after → rest ≡ rest_of text
-    → ((row : List ℕ) → weight row before + times row (rows_of text) ≡ times row (rows_of came))
-    → (row : List ℕ) → weight row after + times row (rows_of rest) ≡ times row (rows_of came)
-still_counted before text after rest came h is was row =
-    let left : rows_of rest ≡ [] = ap rows_of is ∙ (plain [] (rest_of text) (rest_is [] text refl)).0 in
-    ap (λ l. weight row after + times row l) left ∙ (omega (arith, h.weights row, was row))
+-- one more row that came once, or none
+pub still_came : {E : Type 0} (result : Result Unit E) (came : List ℕ) (entries more : List Entry) → OnOk result (more ≡ entries ++ entry came 1 ∷ []) → OnErr result (more ≡ entries)
+    → list_all is_entry entries ≡ true → list_all is_entry more ≡ true
+still_came (Ok done) came entries more is same are = ap (list_all is_entry) is ∙ (list_all-append is_entry entries (entry came 1 ∷ []) ∙ and_true _ _ are refl)
+still_came (Err fault) came entries more is same are = ap (list_all is_entry) same ∙ are
 
-pub still_rest : (text rest came : List ℕ) → rest ≡ rest_of text → rest_of text ≡ rest_of came → rest_of rest ≡ rest_of came
-still_rest text rest came is was = ap rest_of is ∙ ((plain [] (rest_of text) (rest_is [] text refl)).1 ∙ was)
-
--- what comes goes after what is fresh and after all that came
-pub more_counted : (before : List Entry) (fresh came piece : List ℕ) → rest_of fresh ≡ rest_of came
-    → ((row : List ℕ) → weight row before + times row (rows_of fresh) ≡ times row (rows_of came))
-    → (row : List ℕ) → weight row before + times row (rows_of (fresh ++ piece)) ≡ times row (rows_of (came ++ piece))
-more_counted before fresh came piece same was row =
-    let left = ap (times row) (seam [] fresh piece) ∙ times-append row (rows_of fresh) (rows_behind (rest_of fresh) piece) in
-    let right = ap (times row) (seam [] came piece) ∙ times-append row (rows_of came) (rows_behind (rest_of came) piece) in
-    let tails : times row (rows_behind (rest_of fresh) piece) ≡ times row (rows_behind (rest_of came) piece) = ap (λ r. times row (rows_behind r piece)) same in
-    omega (arith, left, right, tails, was row)
-
-pub more_rest : (fresh came piece : List ℕ) → rest_of fresh ≡ rest_of came → rest_of (fresh ++ piece) ≡ rest_of (came ++ piece)
-more_rest fresh came piece same = rest_seam [] fresh piece ∙ (ap (λ r. rest_behind r piece) same ∙ sym (rest_seam [] came piece))
+-- what holds of entries that are given holds of rows that give them
+pub given_by : {E : Type 0} (result : Result Rows E) (entries : List Entry) (P : List Entry → Type 0) → IfOk result (λ rows. entries_of rows ≡ entries)
+    → ((given : List Entry) → given ≡ entries → P given) → IfOk result (λ rows. P (entries_of rows))
+given_by (Ok rows) entries P is h = h (entries_of rows) is
+given_by (Err fault) entries P is h = tt

@@ -3,7 +3,7 @@ use Rattle.std.proofs.Common.{◌≡◌, ◌∙◌, ℕ, List, [], ◌∷◌, �
 use Rattle.std.specs.Str.{bytes_eq}
 use Rattle.std.specs.Cmp.Lexicographic.{same_text}
 use Rattle.std.proofs.lemmas.List.Sums.{sum_by-append, sum_by-cons}
-use Rattle.jp_tally.specs.Counting.{come_once, joined, lead, weight}
+use Rattle.jp_tally.specs.Counting.{joined, lead, weight}
 use Rattle.jp_tally.specs.Tallies.{Entry, times}
 use Rattle.jp_tally.proofs.Joining.{entry}
 
@@ -22,12 +22,6 @@ times-cons row first more = sum_by-cons (λ other. cond (bytes_eq row other) 1 0
 
 pub times-append : (row : List ℕ) (a b : List (List ℕ)) → times row (a ++ b) ≡ times row a + times row b
 times-append row a b = sum_by-append (λ other. cond (bytes_eq row other) 1 0) a b
-
--- rows that are listed one by one
-pub weight-once : (row : List ℕ) (rows : List (List ℕ)) → weight row (come_once rows) ≡ times row rows
-weight-once row [] = refl
-weight-once row (first ∷ more) =
-    weight-cons row (entry first 1) (come_once more) ∙ (ap (λ n. cond (bytes_eq row first) 1 0 + n) (weight-once row more) ∙ sym (times-cons row first more))
 
 -- joining changes no count
 weight-lead : (row : List ℕ) (e : Entry) (more : List Entry) → weight row (lead e more) ≡ share row e + weight row more

@@ -2,4 +2,5 @@
 pub mod Rows
 pub mod Tallies
 pub mod Counting
+pub mod Standing
 pub mod Texts

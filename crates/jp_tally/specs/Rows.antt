@@ -1,24 +1,14 @@
--- The rows of a text, each ended by a line feed (profile).
-use Rattle.std.specs.Prelude.{ℕ, List, [], ◌∷◌, ◌++◌, Bool, not, ◌==◌, if◌then◌else◌}
-use Rattle.std.specs.List.{list_all}
+-- The rows that are told.
+use Rattle.std.specs.Prelude.{ℕ, ◌-◌, List, [], ◌∷◌, length, slice_index, take, ◌==◌, if◌then◌else◌}
+use Rattle.jp_sink.specs.Events.{Event, event_text, gap_event, node_event, row_event}
 
--- the rows of a text that begins with these bytes
-abbrev pub rows_behind : List ℕ → List ℕ → List (List ℕ)
-rows_behind front [] = []
-rows_behind front (byte ∷ more) = if byte == 0x0A then front ∷ rows_behind [] more else rows_behind (front ++ byte ∷ []) more
+-- a text without the line feed that ends it, if one does
+abbrev pub row_of : List ℕ → List ℕ
+row_of text = if slice_index text (length text - 1) == 0x0A then take (length text - 1) text else text
 
--- what stands after the last line feed of such a text
-abbrev pub rest_behind : List ℕ → List ℕ → List ℕ
-rest_behind front [] = front
-rest_behind front (byte ∷ more) = if byte == 0x0A then rest_behind [] more else rest_behind (front ++ byte ∷ []) more
-
--- the rows of a text, and what stands after the last of them
-abbrev pub rows_of : List ℕ → List (List ℕ)
-rows_of text = rows_behind [] text
-
-abbrev pub rest_of : List ℕ → List ℕ
-rest_of text = rest_behind [] text
-
--- a row has no line feed
-abbrev pub is_row : List ℕ → Bool
-is_row row = list_all (λ byte. not (byte == 0x0A)) row
+-- the rows that are told: one for each event but a gap, whatever bytes its text has
+abbrev pub rows_told : List Event → List (List ℕ)
+rows_told [] = []
+rows_told (gap_event ∷ more) = rows_told more
+rows_told (row_event selected text ∷ more) = row_of text ∷ rows_told more
+rows_told (node_event n line node ∷ more) = row_of (event_text (node_event n line node)) ∷ rows_told more

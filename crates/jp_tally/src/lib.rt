@@ -1,8 +1,8 @@
-//! How many of each: the rows that came, each once with how often it came (profile).
+//! How many of each: the rows that were told, each once with how often it was (profile).
 //!
 //! Public calls:
 //!
-//! - `Tally`: a writer of rows that counts them; `write_rows` writes how often each came
+//! - `Tally`: a sink that counts rows; `write_rows` writes how often each was told
 //! - `TallyFault`: why that was not written
 //! - `laws`: what holds of each tally
 #![tactic(auto)]
@@ -11,10 +11,12 @@ mod cells;
 mod counted;
 mod counting;
 mod fault;
-mod kept;
 pub mod laws;
 mod ranked;
+mod rows;
 mod tally;
+#[cfg(test)]
+mod tests;
 mod text;
 
 pub use fault::TallyFault;

@@ -2,11 +2,10 @@
 
 ghost use Rattle.std.specs.Prelude.{◌≡◌, ◌++◌, IfOk, OnOk};
 ghost use Rattle.std.specs.List.Sorted.{IsPermutation, IsSorted};
-ghost use Rattle.jp_tally.specs.Counting.{entries_of_ranked, kept_entries};
+ghost use Rattle.jp_tally.specs.Counting.{entries_of, entries_of_ranked};
 ghost use Rattle.jp_tally.specs.Tallies.{entry_cmp};
 
-use crate::counted::cut_row;
-use crate::kept::Kept;
+use crate::rows::{Rows, cut_row};
 use std::alloc::{AllocError, Global};
 use std::cmp::Reverse;
 
@@ -18,29 +17,27 @@ pub(crate) struct Ranked<'a> {
     pub(crate) row: &'a [u8],
 }
 
-/// Lists the rows that are kept.
-fn list_kept<'a>(kept: &'a Kept, ranked: &mut Vec<Ranked<'a>>) -> Result<(), AllocError>
-    ensures { OnOk result (entries_of_ranked ranked.new.items ≡ entries_of_ranked ranked.old.items ++ kept_entries kept.now) }
+/// Lists rows.
+fn list_ranked<'a>(rows: &'a Rows, ranked: &mut Vec<Ranked<'a>>) -> Result<(), AllocError>
+    ensures { OnOk result (entries_of_ranked ranked.new.items ≡ entries_of_ranked ranked.old.items ++ entries_of rows.now) }
 {
-    let mut rest = kept.text.as_slice();
-    for count in &kept.counts {
-        let Some((row, more)) = cut_row(rest) else {
-            break;
-        };
-        let count = Reverse(*count);
+    let mut rest = rows.text.as_slice();
+    for run in &rows.runs {
+        let (row, more) = cut_row(rest, run.len);
+        let count = Reverse(run.count);
         ranked.push(Ranked { count, row })?;
         rest = more;
     }
     Ok(())
 }
 
-/// The rows that are kept in the order of a tally.
-pub(crate) fn rank_rows<'a>(alloc: Global, kept: &'a Kept) -> Result<Vec<Ranked<'a>>, AllocError>
-    ensures rows { IfOk result (λ ranked. IsPermutation (kept_entries kept.now) (entries_of_ranked ranked.items)) }
+/// Rows in the order of a tally.
+pub(crate) fn rank_rows<'a>(alloc: Global, rows: &'a Rows) -> Result<Vec<Ranked<'a>>, AllocError>
+    ensures rows { IfOk result (λ ranked. IsPermutation (entries_of rows.now) (entries_of_ranked ranked.items)) }
     ensures order { IfOk result (λ ranked. IsSorted entry_cmp (entries_of_ranked ranked.items)) }
 {
     let mut ranked = Vec::new(alloc);
-    list_kept(kept, &mut ranked)?;
+    list_ranked(rows, &mut ranked)?;
     ranked.sort_unstable();
     Ok(ranked)
 }

@@ -1,130 +1,126 @@
-//! A writer of rows that counts them.
+//! A sink that counts the rows that it is told.
 
-ghost use Rattle.std.specs.Prelude.{◌≡◌, ◌+◌, [], ℕ, List, IfOk, false, map, option_map, true};
+ghost use Rattle.std.specs.Prelude.{◌≡◌, [], List, IfOk, OnErr, OnOk, false, map, option_map, true};
 ghost use Rattle.std.specs.List.{list_all};
-ghost use Rattle.std.specs.Io.{WritesAtMost};
-ghost use Rattle.jp_devices.specs.Devices.{Grew};
-ghost use Rattle.jp_tally.specs.Counting.{is_entry, kept_entries, weight};
-ghost use Rattle.jp_tally.specs.Rows.{rest_of, rows_of};
-ghost use Rattle.jp_tally.specs.Tallies.{Entry, IsTally, times};
+ghost use Rattle.jp_sink.specs.Events.{Event};
+ghost use Rattle.jp_sink.specs.Telling.{has_failed};
+ghost use Rattle.jp_tally.specs.Counting.{entries_of, is_entry};
+ghost use Rattle.jp_tally.specs.Rows.{row_of, rows_told};
+ghost use Rattle.jp_tally.specs.Tallies.{Entry, IsTally};
 ghost use Rattle.jp_tally.specs.Texts.{WritesTally, is_write_fault, tally_text};
 
 use crate::counting::count_rows;
 use crate::fault::TallyFault;
-use crate::kept::Kept;
 use crate::ranked::rank_rows;
+use crate::rows::Rows;
 use crate::text::text_of;
 use jp_devices::{Watched, write_whole};
 use jp_form::Table;
+use jp_nodes::Cursor;
+use jp_sink::{Sink, Untold};
 use std::alloc::{AllocError, Global};
-use std::io::{self, Sink, Write};
+use std::io::Write;
 
 /// How many bytes are counted together at least.
 const LEAST: usize = 1 << 16;
 
-/// The rows that came, each ended by a line feed, and how often each did. It is a writer, and a row may come in pieces.
+/// The rows that were told, and how often each was. A row is what a row's text has before the line feed that ends it, and a node's
+/// row is the node.
 ///
 /// Rows are counted once those that came since are twice as many bytes as those that are kept, so that n rows take the time to
 /// sort n rows, whichever they are.
 #[derive(Drop)]
 pub struct Tally {
     alloc: Global,
-    kept: Kept,
-    /// What came since rows were counted.
-    fresh: Vec<u8>,
-    /// All that came, which proofs alone see: nothing is written anywhere.
-    came: Watched<Sink>,
+    kept: Rows,
+    /// The rows that came since rows were counted.
+    fresh: Rows,
     is_full: bool,
-    ghost entries: { list_all is_entry (kept_entries kept) ≡ true },
-    ghost weights: { (row : List ℕ) → weight row (kept_entries kept) + times row (rows_of fresh.items) ≡ times row (rows_of came.taken) },
-    ghost rest: { rest_of fresh.items ≡ rest_of came.taken },
+    ghost kept_came: { list_all is_entry (entries_of kept) ≡ true },
+    ghost fresh_came: { list_all is_entry (entries_of fresh) ≡ true },
 }
 
 impl Tally {
+    ghost use Rattle.jp_tally.specs.Standing.{CountsRow, SameCounts, Stands};
+
     /// A tally of no row yet.
     pub fn new(alloc: Global) -> Tally
-        ensures came { result.came.taken ≡ [] }
+        ensures stands { Stands result [] }
         ensures full { result.is_full ≡ false }
     {
         Tally {
             alloc,
-            kept: Kept::new(alloc),
-            fresh: Vec::new(alloc),
-            came: Watched::new(io::sink()),
+            kept: Rows::new(alloc),
+            fresh: Rows::new(alloc),
             is_full: false,
         }
-    }
-
-    /// Whether a write failed for want of memory.
-    pub fn is_full(&self) -> bool
-        ensures { result ≡ self.now.is_full }
-    {
-        self.is_full
     }
 
     /// Counts the rows that came since.
     ///
     /// If memory is refused, the tally is as before.
     fn count(&mut self) -> Result<(), AllocError>
-        ensures came { self.new.came ≡ self.old.came }
+        ensures counts { SameCounts self.old self.new }
         ensures full { self.new.is_full ≡ self.old.is_full }
     {
-        let (kept, rest) = count_rows(self.alloc, &self.kept, &self.fresh)?;
+        let kept = count_rows(self.alloc, &self.kept, &self.fresh)?;
         self.kept = kept;
-        self.fresh = rest;
+        self.fresh.clear();
         Ok(())
     }
-}
 
-impl Tally {
     /// Makes room for more: once much came since rows were counted, they are counted.
     fn make_room(&mut self) -> Result<(), AllocError>
-        ensures came { self.new.came ≡ self.old.came }
+        ensures counts { SameCounts self.old self.new }
         ensures full { self.new.is_full ≡ self.old.is_full }
     {
-        let fresh = self.fresh.len();
-        if fresh >= LEAST && fresh / 2 >= self.kept.text.len() {
+        let fresh = self.fresh.size();
+        if fresh >= LEAST && fresh / 2 >= self.kept.size() {
             return self.count();
         }
         Ok(())
     }
 
-    /// Takes bytes of rows, and gives how many it took: all of them.
-    fn take(&mut self, bytes: &[u8]) -> io::Result<usize>
-        ensures bound { WritesAtMost result bytes.now }
-        ensures bytes { Grew self.old.came.taken self.new.came.taken result bytes.now }
+    /// Adds a row to those that came since rows were counted.
+    fn add(&mut self, row: &[u8]) -> Result<(), AllocError>
+        ensures counts { OnOk result (CountsRow self.old self.new row.now) }
         ensures full { self.new.is_full ≡ self.old.is_full }
     {
-        if self.make_room().is_err() {
-            return Err(io::ErrorKind::OutOfMemory.into());
+        self.make_room()?;
+        self.fresh.push(row, 1)
+    }
+
+    /// Takes a row.
+    fn take(&mut self, row: &[u8]) -> Result<(), Untold>
+        requires { self.old.is_full ≡ false }
+        ensures counts { OnOk result (CountsRow self.old self.new row.now) }
+        ensures fault { OnErr result (has_failed result ≡ true) }
+        ensures full { self.new.is_full ≡ has_failed result }
+    {
+        if self.add(row).is_ok() {
+            return Ok(());
         }
-        let before = self.fresh.len();
-        if self.fresh.extend_from_slice(bytes).is_err() {
-            return Err(io::ErrorKind::OutOfMemory.into());
-        }
-        let taken = self.came.write(bytes);
-        match &taken {
-            Ok(count) => self.fresh.truncate(before + *count),
-            Err(_) => self.fresh.truncate(before),
-        }
-        taken
+        self.is_full = true;
+        Err(Untold::Sink)
     }
 }
 
 impl Tally {
-    /// The text of the tally of the rows that came.
+    ghost use Rattle.jp_tally.specs.Standing.{Stands};
+
+    /// The text of the tally of the rows that were told.
     fn text(&self, table: Table, names: Option<&[&str]>) -> Result<Vec<u8>, AllocError>
-        ensures { IfOk result (λ text. (tally : List Entry) × IsTally (rows_of self.now.came.taken) tally
+        ensures { (told : List Event) → Stands self.now told → IfOk result (λ text. (tally : List Entry) × IsTally (rows_told told) tally
             × (text.items ≡ tally_text table (option_map (λ given. map (λ name. name.now) given.now) names.entry) tally)) }
     {
-        let (kept, _rest) = count_rows(self.alloc, &self.kept, &self.fresh)?;
+        let kept = count_rows(self.alloc, &self.kept, &self.fresh)?;
         let ranked = rank_rows(self.alloc, &kept)?;
         text_of(self.alloc, table, names, &ranked)
     }
 
-    /// Writes the tally of the rows that came, a row for each that is not the same as another: how often it came, and its cells,
-    /// which tabs part, as the table shows them. The row is to have the canonical texts of values for its cells. Above all rows
-    /// stand the names of the columns, where there are any.
+    /// Writes the tally of the rows that were told, a row for each that is not the same as another: how often it came, and its
+    /// cells, which tabs part, as the table shows them. The row is to have the canonical texts of values for its cells. Above all
+    /// rows stand the names of the columns, where there are any.
     ///
     /// # Errors
     ///
@@ -136,7 +132,7 @@ impl Tally {
         out: &mut Watched<W>,
     ) -> Result<(), TallyFault>
         requires { out.old.failed ≡ false }
-        ensures rows { WritesTally W.contents out.old out.new result (rows_of self.now.came.taken) table (option_map (λ given. map (λ name. name.now) given.now) names.entry) }
+        ensures rows { (told : List Event) → Stands self.now told → WritesTally W.contents out.old out.new result (rows_told told) table (option_map (λ given. map (λ name. name.now) given.now) names.entry) }
         ensures fault { out.new.failed ≡ is_write_fault result }
     {
         let Ok(text) = self.text(table, names) else {
@@ -149,28 +145,49 @@ impl Tally {
     }
 }
 
-/// The bytes that it has are those that came. A write fails where memory is refused, and the tally is then of no use.
-impl Write for Tally {
-    ghost use Rattle.std.specs.Prelude.{◌||◌, Some, is_err};
-    ghost use Rattle.std.specs.Io.KnownBytes.{Keeps, WriteAppends};
+/// The text without the line feed that ends it, if one does.
+fn without_feed(text: &[u8]) -> &[u8]
+    ensures { result.now ≡ row_of text.now }
+{
+    let Some(end) = text.len().checked_sub(1) else {
+        return text;
+    };
+    if text[end] == b'\n' {
+        &text[..end]
+    } else {
+        text
+    }
+}
 
-    ghost contents = { λ tally. Some tally.came.taken };
+/// It fails where memory is refused, and is then of no use.
+impl Sink for Tally {
+    ghost use Rattle.jp_tally.specs.Standing.{Stands};
 
-    fn write(&mut self, bytes: &[u8]) -> io::Result<usize>
-        ensures bound { WritesAtMost result bytes.now }
-        ensures bytes { WriteAppends (Some self.old.came.taken) (Some self.new.came.taken) result bytes.now }
-        ensures full { self.new.is_full ≡ (self.old.is_full || is_err result) }
-    {
-        let taken = self.take(bytes);
-        self.is_full |= taken.is_err();
-        taken
+    ghost stands = { λ tally told. Stands tally told };
+
+    ghost stopped = { λ tally told. Unit {0} };
+
+    ghost state = { λ tally. record { failed = tally.is_full; unflushed = false; after = 0; settings = [] } };
+
+    fn gap(&mut self) {}
+
+    fn row(&mut self, _is_selected: bool, text: &[u8]) -> Result<(), Untold> {
+        self.take(without_feed(text))
     }
 
-    fn flush(&mut self) -> io::Result<()>
-        ensures bytes { Keeps (Some self.old.came.taken) (Some self.new.came.taken) }
-        ensures full { self.new.is_full ≡ self.old.is_full }
-        ensures ok { is_err result ≡ false }
-    {
+    fn node(&mut self, _number: u64, node: Cursor<'_>) -> Result<(), Untold> {
+        self.take(node.source())
+    }
+
+    fn flush(&mut self) -> Result<(), Untold> {
         Ok(())
+    }
+
+    fn is_unflushed(&self) -> bool {
+        false
+    }
+
+    fn has_failed(&self) -> bool {
+        self.is_full
     }
 }

@@ -11,7 +11,7 @@ use Rattle.jp_tape.specs.declared.builder.nodes.Nodes.{Nodes}
 use Rattle.jp_tape.specs.declared.builder.tokens.Label.{Label}
 use Rattle.jp_tape.specs.declared.builder.tokens.Scalar.{Scalar}
 use Rattle.jp_tape.specs.Reading.{FoundLabel, FoundScalar, IsPlainLabel}
-use Rattle.jp_tape.specs.Machine.{Frame, entered, open_count, open_words, open_names, next_parent, next_index, open_surrogate, open_long, open_duplicate, first_fault}
+use Rattle.jp_tape.specs.Machine.{Frame, entered, open_count, open_words, open_names, next_parent, open_surrogate, open_long, open_duplicate, first_fault}
 use Rattle.jp_tape.specs.Reader.{after_value, Suits, SuitsIn}
 use Rattle.jp_tape.specs.Nodes.{AreOpen, Holds, NodesStand}
 use Rattle.jp_tape.specs.Names.{spelled_name, spelled_names, IsKept, AreKept}

@@ -19,7 +19,7 @@ use Rattle.jp_tape.proofs.More.{PassedOn, passes_on, begins_inside, opening_open
 use Rattle.jp_tape.specs.Reading.{NoLabel, OnFault}
 use Rattle.jp_tape.specs.Refusals.{IsStopOf}
 use Rattle.jp_nodes.specs.Kinds.{container_if}
-use Rattle.jp_tape.specs.Machine.{Frame, entered, grown, State, Value_at, After_value, Alike, IsStuck, Leads, open_depth}
+use Rattle.jp_tape.specs.Machine.{Frame, entered, grown, State, Value_at, After_value, IsStuck, Leads, open_depth}
 use Rattle.jp_tape.specs.Reader.{Told, Up_to, after_value, closings, Suits, SuitsIn, IsRoomy, IsNamed, IsTold, IsValueNext, IsValueBehind}
 use Rattle.jp_tape.proofs.Steps.{enter_step, comma_step, comma_stuck, close_step, neither_stuck, leads_on}
 use Rattle.jp_tape.proofs.Held.{last_of, grown_depth, closed_depth}

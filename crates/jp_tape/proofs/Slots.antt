@@ -1,8 +1,9 @@
 -- Names that spell the same share a slot, so only those that share one need be compared.
-use Rattle.std.proofs.Common.{◌≡◌, ℕ, suc, ◌*◌, ◌/◌, ◌^◌, ◌<◌, ◌≤◌, inl, inr, Bool, true, false, cond, ◌||◌, ◌==◌, List, [], ◌∷◌, length, get_or, sym, ◌∙◌, ap, ap₂, subst, refl, arith}
+use Rattle.std.proofs.Common.{◌≡◌, ℕ, suc, ◌+◌, take, get_or-take, ◌*◌, ◌/◌, ◌^◌, ◌<◌, ◌≤◌, inl, inr, Bool, true, false, cond, ◌||◌, ◌==◌, List, [], ◌∷◌, length, get_or, sym, ◌∙◌, ap, ap₂, subst, refl, arith}
 use Rattle.std.specs.Prelude.{IsTrue, All, min, max}
 use Rattle.std.specs.List.{list_any, list_all, filter}
-use Rattle.std.proofs.lemmas.Bool.{cases_Bool, eq-eqb}
+use Rattle.std.proofs.lemmas.Bool.{cases_Bool, cases_lt, eq-eqb}
+use Rattle.std.proofs.lemmas.List.{get_or_default, length-take-le}
 use Rattle.std.proofs.lemmas.Nat.{mod_below, div_below, mul-add-lt, shr_below}
 use Rattle.std.proofs.lemmas.List.Sums.{AllPass-from_list_all}
 use Rattle.std.proofs.lemmas.Slice.Eq.{bytes_eq-Decides}
@@ -12,7 +13,7 @@ use Rattle.jp_model.proofs.Reader.Lexical.{clash}
 use Rattle.jp_strings.proofs.Runs.{plain_differ}
 use Rattle.jp_tape.specs.declared.builder.kept.KeptName.{KeptName}
 use Rattle.jp_tape.specs.Keys.{key_of, mixed, slot_of, slot_in, slot_count, shares_slot, AreHit, AreAlone, FallByText}
-use Rattle.jp_tape.specs.Names.{bytes_of, spelled_name, spelled_names, IsKept, AreKept}
+use Rattle.jp_tape.specs.Names.{bytes_of, spelled_name, spelled_names, IsKept, AreKept, DiffersFrom, AreApart}
 use Rattle.jp_tape.proofs.Repeated.{text_is}
 
 other_text : (a b : List ℕ) → (a ≡ b → ⊥) → text_equal a b ≡ false
@@ -77,6 +78,36 @@ same_bytes line a b k m p q e =
 
 plain_fall : (line : List ℕ) (xs : List KeptName) (slots : ℕ) → AreKept line xs → All (λ (n : KeptName). IsTrue n.is_plain) xs → FallByText line xs (slot_in line slots)
 plain_fall line xs slots m p j k n l w e = ap (slot_of slots) (same_bytes line (get_or xs j n) (get_or xs k n) (m j n l) (m k n w) (p j n l) (p k n w) e)
+
+-- plain names of which no two have the same bytes
+pub apart_differ : (line : List ℕ) (xs : List KeptName) → AreKept line xs → AreApart line xs (length xs) → false ≡ has_repeated (spelled_names line xs)
+apart_differ line xs m a =
+    sym (ap (λ ys. has_repeated (spelled_names line ys)) (none_shared (λ n. false) xs (λ k n l. refl)))
+    ∙ kept_repeat line (λ n. false) xs
+    (λ j k n l w e.
+    let before : j < length xs = omega (arith, l, w) in
+    absurd (a.apart j k n l w (same_bytes line (get_or xs j n) (get_or xs k n) (m j n before) (m k n w) (a.plain j n before) (a.plain k n w) e)))
+
+-- one more name that stands for itself and differs from those before it
+pub one_more_apart : (line : List ℕ) (names : List KeptName) (m : ℕ) (d : KeptName) → m < length names → AreApart line names m → (get_or names m d).is_plain ≡ true → DiffersFrom line (get_or names m d) (take m names) (length (take m names)) → AreApart line names (m + 1)
+one_more_apart line names m d l a p f = record {
+  plain = λ k n w.
+      elim (cases_lt k m) [
+        | inl lt ↦ a.plain k n lt
+        | inr ge ↦
+            (let here : k ≡ m = omega (arith, w, ge) in
+            subst (λ i. IsTrue (get_or names i n).is_plain) (sym here) (subst (λ (x : KeptName). IsTrue x.is_plain) (get_or_default names m d n l) p))
+      ];
+  apart = λ j k n b w same.
+      elim (cases_lt k m) [
+        | inl lt ↦ a.apart j k n b lt same
+        | inr ge ↦
+            (let here : k ≡ m = omega (arith, w, ge) in
+            let before : j < m = omega (arith, b, here) in
+            let size = length-take-le m names (omega (arith, l)) in
+            f j n (omega (arith, size, before)) (ap (bytes_of line) (get_or-take m names j n before) ∙ (same ∙ (ap (λ i. bytes_of line (get_or names i n)) here ∙ ap (bytes_of line) (get_or_default names m n d l)))))
+      ];
+}
 
 mixed_below : (first middle last : ℕ) → mixed first middle last < 2 ^ 64
 unfolding mixed

@@ -9,3 +9,4 @@ pub mod Reader
 pub mod Nodes
 pub mod Fresh
 pub mod Refusals
+pub mod Parts

@@ -1,5 +1,5 @@
 -- The names of objects, as the builder keeps them.
-use Rattle.std.specs.Prelude.{ℕ, ◌≤◌, List, length, map, IsTrue, All}
+use Rattle.std.specs.Prelude.{◌≡◌, ℕ, ◌<◌, ◌≤◌, List, length, get_or, map, IsTrue, All}
 use Rattle.jp_model.specs.Json.Places.{bytes_between}
 use Rattle.jp_strings.specs.Plain.{ArePlain}
 use Rattle.jp_strings.specs.Points.{points_of, is_text_from}
@@ -36,3 +36,12 @@ pub record IsKept (line : List ℕ) (name : KeptName) : Type 0 where
 -- such are all of them
 abbrev pub AreKept : List ℕ → List KeptName → Type 0
 AreKept line names = All (IsKept line) names
+
+-- the bytes of a name are not those of the first `count` of others
+abbrev pub DiffersFrom : List ℕ → KeptName → List KeptName → ℕ → Type 0
+DiffersFrom line name others count = (k : ℕ) (n : KeptName) → k < count → bytes_of line (get_or others k n) ≡ bytes_of line name → ⊥
+
+-- each of the first `count` names stands for itself, and the bytes of no two of them are the same
+pub record AreApart (line : List ℕ) (names : List KeptName) (count : ℕ) : Type 0 where
+  pub plain : (k : ℕ) (n : KeptName) → k < count → IsTrue (get_or names k n).is_plain
+  pub apart : (j k : ℕ) (n : KeptName) → j < k → k < count → bytes_of line (get_or names j n) ≡ bytes_of line (get_or names k n) → ⊥

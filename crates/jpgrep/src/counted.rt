@@ -6,11 +6,11 @@ use crate::files::{CANNOT_WRITE, Searched, Searcher, find_input, tell_memory};
 use crate::lists::Lists;
 use crate::output::Output;
 use jp_devices::flush_written;
-use jp_grep::{Finished, Question, Run};
+use jp_grep::{Finished, Question, Run, Sink};
 use jp_model::Watched;
 use jp_options::Options;
 use std::alloc::AllocError;
-use std::io::{Stderr, Write};
+use std::io::Stderr;
 
 /// The exit status where something was refused or failed.
 const FAULT: u8 = 2;
@@ -24,11 +24,8 @@ pub(crate) enum Unwritten {
     Write,
 }
 
-/// What counts the rows that the files give.
-pub(crate) trait Counter: Write + Drop {
-    /// Whether memory was refused for a row.
-    fn is_full(&self) -> bool;
-
+/// A sink that counts rows or nodes and writes a summary at the end. It fails for want of memory alone.
+pub(crate) trait Counter: Sink + Drop {
     /// Writes what was counted.
     fn write_rows(self, options: &Options<'_>, out: &mut Watched<Output>) -> Result<(), Unwritten>
         requires { out.old.failed ≡ false }
@@ -63,21 +60,20 @@ fn end<C: Counter>(searcher: Searcher<'_, C>) -> Searched {
     let (has_selected, lacks_memory) = (searcher.run.has_selected(), searcher.lacks_memory);
     let Finished {
         status,
-        rows,
+        sink: counter,
         messages,
     } = searcher.run.finish();
     if messages.failed() {
         let _ = eprintln!(rt; "jpgrep: {CANNOT_WRITE}");
     }
-    let counter = rows.into_inner();
-    if counter.is_full() {
+    if counter.has_failed() {
         tell_memory(rt);
     }
     let fault = Searched {
         status: FAULT,
         has_selected,
     };
-    if lacks_memory || counter.is_full() {
+    if lacks_memory || counter.has_failed() {
         return fault;
     }
     if write_rows(rt, options, counter) {
@@ -90,7 +86,7 @@ fn end<C: Counter>(searcher: Searcher<'_, C>) -> Searched {
     }
 }
 
-/// Searches the files that the arguments name in turn, counts the rows that they give, writes what was counted, and gives the exit
+/// Searches the files that the arguments name in turn, counts what they give, writes what was counted, and gives the exit
 /// status: 0 if a line was selected, 1 if none was, 2 if something was refused or failed, in the lists or in the files.
 ///
 /// # Errors
@@ -104,9 +100,8 @@ pub(crate) fn count_files<C: Counter>(
     counter: C,
 ) -> Result<Searched, AllocError> {
     let stdin = find_input(rt, options);
-    let rows = Watched::new(counter);
     let messages: Watched<Stderr> = Watched::new(rt.stderr());
-    let run = Run::new(rt.alloc(), question, false, rows, messages)?;
+    let run = Run::new(rt.alloc(), question, false, counter, messages)?;
     let mut searcher = Searcher {
         rt,
         options,

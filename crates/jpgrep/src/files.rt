@@ -7,22 +7,22 @@ use crate::output::{Output, Printer, RegularFile};
 use jp_context::Context;
 use jp_devices::StandardInput;
 use jp_grep::{
-    Finished, Format, Framing, Input, Limit, Question, Run, SearchFault, Shown, Summary, Table,
-    Units, Unread,
+    Finished, Format, Framing, Input, Limit, Question, Run, SearchFault, Shown, Sink, Summary,
+    TextSink, Units, Unread,
 };
 use jp_model::Watched;
 use jp_options::Options;
 use jp_shown::shown;
 use std::alloc::AllocError;
 use std::fs;
-use std::io::{ErrorKind, IsTerminal, Read, Stderr, Write};
+use std::io::{ErrorKind, IsTerminal, Read, Stderr};
 
-/// What goes through the files, and writes the rows that they give to `W`.
+/// What goes through the files, and tells `S` what they give.
 #[derive(Drop)]
-pub(crate) struct Searcher<'q, W: Write + Drop> {
+pub(crate) struct Searcher<'q, S: Sink + Drop> {
     pub(crate) rt: &'q HostRuntime,
     pub(crate) options: &'q Options<'q>,
-    pub(crate) run: Run<'q, W, Stderr>,
+    pub(crate) run: Run<'q, S, Stderr>,
     /// The file that rows may be added to while lines are read.
     pub(crate) output: Option<RegularFile>,
     /// Whether rows have colours.
@@ -123,37 +123,16 @@ impl<'n> FileName<'n> {
     }
 }
 
-impl<W: Write + Drop> Searcher<'_, W> {
-    /// Writes the header of a table.
-    fn write_header(&mut self) -> Next {
+impl<S: Sink + Drop> Searcher<'_, S> {
+    /// Tells the header of a table.
+    fn tell_header(&mut self) -> Next {
         if !self.run.is_open() {
             return Next::Stop;
         }
         let form = self
             .options
             .form(STANDARD_INPUT, STANDARD_INPUT, self.coloured);
-        let written = self.run.write_header(&form, self.options.columns());
-        self.after_row(written)
-    }
-
-    /// Writes an empty row before the rows of a file, whose line numbers begin again: of equal numbers, a survey of nodes takes those
-    /// that follow one another for one line.
-    fn part_rows(&mut self) -> Next {
-        if !self.run.is_open() {
-            return Next::Stop;
-        }
-        let mut form = self
-            .options
-            .form(STANDARD_INPUT, STANDARD_INPUT, self.coloured);
-        form.shown = Shown::Cells(Table::Canonical);
-        form.numbered = false;
-        let written = self.run.write_header(&form, &[]);
-        self.after_row(written)
-    }
-
-    /// Whether the search goes on after a row that was written, or was not.
-    fn after_row(&mut self, written: Result<(), SearchFault>) -> Next {
-        match written {
+        match self.run.tell_header(&form, self.options.columns()) {
             Ok(()) => Next::GoOn,
             Err(SearchFault::Memory) => self.stop_for_memory(),
             Err(_) => Next::Stop,
@@ -194,7 +173,7 @@ impl<W: Write + Drop> Searcher<'_, W> {
     /// Tells where the rest of a file was passed over, whether messages are wanted or not, since answers may be missing.
     fn tell_unread(&mut self, name: FileName<'_>, unread: Unread) {
         if self.run.is_open() {
-            self.run.flush_messages();
+            self.run.hand_on();
             let (told, why) = (name.told, limit_message(unread.limit));
             let _ = eprintln!(self.rt;
                 "jpgrep: {told}:{}: {why}; the rest is not searched",
@@ -208,7 +187,7 @@ impl<W: Write + Drop> Searcher<'_, W> {
         if self.options.quiet || self.options.refused || !self.run.is_open() {
             return;
         }
-        self.run.flush_messages();
+        self.run.hand_on();
         let told = name.told;
         let _ = eprintln!(self.rt; "jpgrep: {told}: {GOES_ON}");
     }
@@ -258,9 +237,6 @@ impl<W: Write + Drop> Searcher<'_, W> {
         if file.is_some() && file == self.output {
             self.tell(name, IS_OUTPUT);
             return Next::GoOn;
-        }
-        if self.options.surveys_nodes() && self.part_rows() == Next::Stop {
-            return Next::Stop;
         }
         self.search(name, input)
     }
@@ -316,19 +292,19 @@ impl<W: Write + Drop> Searcher<'_, W> {
     }
 }
 
-impl<W: Printer> Searcher<'_, W> {
+impl<P: Printer> Searcher<'_, P> {
     /// Ends the run, reports rows or messages that were not written, and gives the exit status. A pipe that nobody reads any
     /// more is no news.
     fn end(self) -> Searched {
         let rt = self.rt;
         let has_selected = self.run.has_selected();
-        let finished = self.run.finish();
-        let unwritten = finished.rows.failed() || finished.messages.failed();
-        let Finished { status, rows, .. } = finished;
-        let printer = rows.into_inner();
-        if printer.is_full() {
-            tell_memory(rt);
-        } else if unwritten && !printer.into_output().is_unread() {
+        let Finished {
+            status,
+            sink,
+            messages,
+        } = self.run.finish();
+        let unwritten = sink.has_failed() || messages.failed();
+        if unwritten && !sink.into_output().is_unread() {
             let _ = eprintln!(rt; "jpgrep: {CANNOT_WRITE}");
         }
         Searched {
@@ -391,22 +367,22 @@ pub(crate) fn search_files(
         let context = Context::new(rt.alloc(), before, after, coloured, output);
         print_files(rt, options, question, lists, context)
     } else {
-        print_files(rt, options, question, lists, output)
+        let text = TextSink::new(rt.alloc(), output);
+        print_files(rt, options, question, lists, text)
     }
 }
 
 /// Searches the files in turn, and prints the rows that they give by `printer`.
-fn print_files<W: Printer>(
+fn print_files<P: Printer>(
     rt: &HostRuntime,
     options: &Options<'_>,
     question: &Question,
     lists: Lists,
-    printer: W,
+    printer: P,
 ) -> Result<Searched, AllocError> {
     let stdin = find_input(rt, options);
-    let rows = Watched::new(printer);
     let messages = Watched::new(rt.stderr());
-    let run = Run::new(rt.alloc(), question, options.quiet, rows, messages)?;
+    let run = Run::new(rt.alloc(), question, options.quiet, printer, messages)?;
     let output = find_output(rt, options);
     let mut searcher = Searcher {
         rt,
@@ -419,7 +395,7 @@ fn print_files<W: Printer>(
     if lists != Lists::Read {
         searcher.run.refuse();
     }
-    if !options.has_header() || searcher.write_header() == Next::GoOn {
+    if !options.has_header() || searcher.tell_header() == Next::GoOn {
         searcher.search_all(stdin);
     }
     Ok(searcher.end())

@@ -96,16 +96,6 @@ fn tell_meant(
     }
 }
 
-/// A survey of the lines of the files, or of nodes of theirs.
-fn new_survey(rt: &HostRuntime, options: &Options<'_>) -> Result<Survey, AllocError> {
-    let fold = options.names_before_fold();
-    if options.surveys_nodes() {
-        Survey::of_nodes(rt.alloc(), fold)
-    } else {
-        Survey::new(rt.alloc(), fold)
-    }
-}
-
 /// Reads the question, searches the files, and gives the exit status.
 fn answer<'a>(rt: &HostRuntime, options: &Options<'a>) -> Result<u8, Refusal<'a>> {
     let Asked {
@@ -125,7 +115,8 @@ fn answer<'a>(rt: &HostRuntime, options: &Options<'a>) -> Result<u8, Refusal<'a>
     let searched = if options.tally {
         count_files(rt, options, &question, lists, Tally::new(rt.alloc()))?
     } else if options.survey {
-        count_files(rt, options, &question, lists, new_survey(rt, options)?)?
+        let survey = Survey::new(rt.alloc(), options.names_before_fold())?;
+        count_files(rt, options, &question, lists, survey)?
     } else {
         search_files(rt, options, &question, lists)?
     };

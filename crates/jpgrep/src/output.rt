@@ -1,15 +1,13 @@
 //! Standard output: whether anybody reads it, which file it goes to, and what rows pass on their way to it.
 
 use jp_context::Context;
+use jp_grep::{Sink, TextSink};
 use std::fs::{self, Metadata};
 use std::io::{self, Stdout, Write};
 use std::os::unix::fs::MetadataExt;
 
 /// What prints rows on standard output, as they come or some of them.
-pub(crate) trait Printer: Write + Drop {
-    /// Whether memory was refused for what it keeps of the rows.
-    fn is_full(&self) -> bool;
-
+pub(crate) trait Printer: Sink + Drop {
     /// Standard output.
     fn into_output(self) -> Output;
 }
@@ -58,23 +56,15 @@ impl Write for Output {
     }
 }
 
-impl Printer for Output {
-    fn is_full(&self) -> bool {
-        false
-    }
-
+impl Printer for TextSink<Output> {
     fn into_output(self) -> Output {
-        self
+        self.finish().into_inner()
     }
 }
 
 impl Printer for Context<Output> {
-    fn is_full(&self) -> bool {
-        Context::is_full(self)
-    }
-
     fn into_output(self) -> Output {
-        self.into_inner().into_inner()
+        self.finish().into_inner()
     }
 }
 

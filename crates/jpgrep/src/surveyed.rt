@@ -7,10 +7,6 @@ use jp_options::Options;
 use jp_survey::{Survey, SurveyFault};
 
 impl Counter for Survey {
-    fn is_full(&self) -> bool {
-        Survey::is_full(self)
-    }
-
     fn write_rows(self, options: &Options<'_>, out: &mut Watched<Output>) -> Result<(), Unwritten> {
         match Survey::write_rows(self, options.counted_table(), options.has_header(), out) {
             Ok(()) => Ok(()),

@@ -7,10 +7,6 @@ use jp_options::Options;
 use jp_tally::{Tally, TallyFault};
 
 impl Counter for Tally {
-    fn is_full(&self) -> bool {
-        Tally::is_full(self)
-    }
-
     fn write_rows(self, options: &Options<'_>, out: &mut Watched<Output>) -> Result<(), Unwritten> {
         let names = if options.has_header() {
             Some(options.columns())

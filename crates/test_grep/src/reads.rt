@@ -3,7 +3,7 @@
 use super::devices::{Behind, Reads, Taking};
 use jp_grep::{
     Form, Format, Framing, Input, Origin, Pieces, Queries, Question, SearchFault, Shown, Spelling,
-    Summary, Units, Wanted, search,
+    Summary, TextSink, Units, Wanted, search,
 };
 use jp_model::Watched;
 use jp_query::{Refusal, read_query};
@@ -67,7 +67,7 @@ fn searched(
         trailing: 0,
     };
     let mut input = Input::new(Watched::new(Reads::new(pieces, behind)));
-    let mut rows = Watched::new(Taking::new(alloc));
+    let mut rows = TextSink::new(alloc, Taking::new(alloc));
     let mut messages = Watched::new(Taking::new(alloc));
     let found = search(
         alloc,
@@ -83,7 +83,7 @@ fn searched(
             Err(fault) => Err(fault),
         },
         reads: input.into_reader().calls(),
-        rows: rows.into_inner().held,
+        rows: rows.finish().into_inner().held,
         messages: messages.into_inner().held,
     })
 }

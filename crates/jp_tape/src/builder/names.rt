@@ -1,19 +1,19 @@
 //! The names of an object: whether two of them are equal.
 
-ghost use Rattle.std.specs.Prelude.{◌≡◌, ◌<◌, ◌≤◌, ◌^◌, length, Some, nat_eq, refl, IfOk, IsSorted};
+ghost use Rattle.std.specs.Prelude.{◌≡◌, ◌<◌, ◌≤◌, ◌^◌, length, true, Some, nat_eq, refl, IfOk, IsSorted};
 ghost use Rattle.std.specs.Ordering.{nat_cmp};
 ghost use Rattle.std.specs.Cmp.Lexicographic.{slice_cmp, pointwise, nat_list_eq_equiv, nat_list_cmp_total, texts_po, texts_ties};
 ghost use Rattle.std.specs.Cmp.{on_equiv, on_per, on_po, on_total, partial_equiv_from_equiv};
 ghost use Rattle.std.specs.List.{filter, list_all};
 ghost use Rattle.jp_model.specs.Json.Faults.{has_repeated};
 ghost use Rattle.jp_tape.specs.Keys.{slot_in, shares_slot, slot_count, FallByText};
-ghost use Rattle.jp_tape.specs.Names.{points, all_points, spelled_names, AreKept};
+ghost use Rattle.jp_tape.specs.Names.{points, all_points, spelled_names, IsKept, AreKept, DiffersFrom, AreApart};
 ghost use Rattle.jp_tape.specs.declared.builder.kept.KeptName.{KeptName};
 
 use super::body::Body;
 use super::kept::KeptName;
 use super::keys::{count_hits, is_shared};
-use jp_lanes::equal_bytes;
+use jp_lanes::{ends_differ, equal_bytes};
 use jp_strings::{compare, equal};
 use std::alloc::{AllocError, Global};
 use std::cmp::Ordering;
@@ -28,6 +28,9 @@ const MOST_SLOTTED: usize = 1 << 28;
 
 /// Fewer names than these have no equal ones.
 const PAIR: usize = 2;
+
+/// Of no more names than these each is compared with each, which takes less than their slots do.
+const FEW: usize = 5;
 
 impl PartialEq for Body<'_> {
     ghost eq = { λ a b. pointwise nat_eq (points a) (points b) };
@@ -164,12 +167,44 @@ fn has_equal_of_many(line: &[u8], names: &[KeptName], alloc: Global) -> Result<b
     has_equal_by(line, names, &mut hits, alloc)
 }
 
+/// Whether a name is known to differ from others. Most have another length, or another end.
+#[inline(always)]
+fn differs_from(line: &[u8], name: KeptName, others: &[KeptName]) -> bool
+    requires name { IsKept line.now name }
+    requires others { AreKept line.now others.now }
+    ensures { result ≡ true → DiffersFrom line.now name others.now (length others.now) }
+{
+    for other in others {
+        if !ends_differ(other.bytes(line), name.bytes(line)) {
+            return false;
+        }
+    }
+    true
+}
+
+/// Whether it is known that no two of a few names are equal: each stands for itself, and is compared with those before it.
+#[inline(always)]
+fn are_apart(line: &[u8], names: &[KeptName]) -> bool
+    requires { AreKept line.now names.now }
+    ensures { result ≡ true → AreApart line.now names.now (length names.now) }
+{
+    for later in 0..names.len() {
+        if !names[later].is_plain || !differs_from(line, names[later], &names[..later]) {
+            return false;
+        }
+    }
+    true
+}
+
 /// Whether two of two or more names are equal.
 #[inline(never)]
 fn has_equal_of_some(line: &[u8], names: &[KeptName], alloc: Global) -> Result<bool, AllocError>
     requires { AreKept line.now names.now }
     ensures { IfOk result (λ is_repeated. is_repeated ≡ has_repeated (spelled_names line.now names.now)) }
 {
+    if names.len() <= FEW && are_apart(line, names) {
+        return Ok(false);
+    }
     let slots = slots_for(names);
     if slots > FEW_SLOTS {
         return has_equal_of_many(line, names, alloc);

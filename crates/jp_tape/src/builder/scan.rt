@@ -23,7 +23,7 @@ fn is_digit_byte(byte: u8) -> bool
 }
 
 /// Whether a byte occurs in numbers: a digit, a point, an `e` of either case, or a sign (RFC 8259, section 6).
-fn is_number_byte(byte: u8) -> bool
+pub(super) fn is_number_byte(byte: u8) -> bool
     ensures { result ≡ in_number byte }
 {
     is_digit_byte(byte)

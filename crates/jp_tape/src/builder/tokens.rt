@@ -16,7 +16,7 @@ use super::scan::{is_byte, marks_behind, next_mark};
 use jp_lanes::first_special;
 use jp_model::Span;
 use jp_nodes::Kind;
-use jp_strings::{StringFault, test_utf8_body};
+use jp_strings::{StringFault, test_utf8_within};
 
 /// The end of a string, and whether a surrogate stands alone in it.
 #[derive(Clone, Copy)]
@@ -81,7 +81,7 @@ fn is_lone_within(line: &[u8], from: usize, last: usize) -> Option<bool>
     ensures found { IfSome result (λ is_lone. (points : List ℕ) × SpellsString line.now from (last + 1) points × (has_lone_surrogate points ≡ is_lone)) }
     ensures none { IfNone result ((points : List ℕ) → SpellsBody line.now (from + 1) last points → ⊥) }
 {
-    match test_utf8_body(&line[from + 1..last]) {
+    match test_utf8_within(line, from + 1, last) {
         Ok(()) => Some(false),
         Err(StringFault::Surrogate) => Some(true),
         Err(StringFault::Shape) => None,

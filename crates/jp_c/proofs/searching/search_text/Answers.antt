@@ -1,13 +1,13 @@
 -- The text was searched to its end, or has the mark of another format.
-use Rattle.std.proofs.Common.{arith, ◌≡◌, ◌∙◌, ◌++◌, ◌-◌, ℕ, List, ap, append-nil, sym, true, Some}
+use Rattle.std.proofs.Common.{arith, ◌≡◌, ◌∙◌, ◌-◌, ℕ, List, ap, sym, true, Some}
 use denote.Ref.{Bor}
 use Rattle.jp_devices.specs.Devices.{Device}
 use Rattle.jp_form.specs.declared.form.Summary.{Summary}
 use Rattle.jp_grep.specs.Items.{Item, items_come}
-use Rattle.jp_grep.specs.Rows.{output_from, refused_count, selected_count, summary_of}
+use Rattle.jp_grep.specs.Rows.{refused_count, selected_count, stream_events, summary_of}
 use Rattle.jp_grep.specs.Watching.{answered_of, is_whole}
 use Rattle.jp_c.proofs.Asking.{all_answered, all_came, first_came, foreign_mark}
-use Rattle.jp_c.proofs.Whole.{all_counted, come_judged, received_as}
+use Rattle.jp_c.proofs.Whole.{all_counted, come_judged, taken_as}
 use Rattle.jp_c.proofs.searching.search_text.Goals as goal
 
 pub returns-in-Ok-clause-found : goal.returns-in-Ok-clause-found
@@ -21,12 +21,9 @@ returns-in-Ok-clause-found g c =
     let whole : is_whole found ≡ true = sym c.is_whole.ensures ∙ c.if-not-is_whole.false in
     let text_is = ap (λ (r : Device (Bor (List ℕ))). Some r.device.now) c.new-input.ensures.reader ∙ ap (λ (b : Bor (List ℕ)). Some b.now) c.new.ensures.device in
     let all = all_answered question form c.args.text.now came outcomes found whole c.if-came-form.false o.5.end o.5.counts (λ ended. all_came _ (Some c.search.new.input.reader.device.now) c.args.text.now came.bytes text_is o.2.0.left (o.2.3 ended)) in
-    let output = output_from question form 1 (answered_of question form 0 outcomes) in
-    received_as _ _ _ _ _
-    (ap (λ (s : Summary). output ++ summary_of s form (selected_count question (answered_of question form 0 outcomes)) (is_whole found)) c.requires.summary
-    ∙ append-nil output
-    ∙ ap (λ (items : List Item). output_from question form 1 items) all)
-    o.5.rows
+    let rows = o.5.rows in
+    let none = rows.1.none (ap (λ (s : Summary). summary_of s form (selected_count question (answered_of question form 0 outcomes)) (is_whole found)) c.requires.summary) in
+    taken_as g.S.Sink.stands _ _ _ _ _ none (ap (λ (items : List Item). stream_events question form items) all) rows.2
 
 pub returns-in-Ok-clause-refused : goal.returns-in-Ok-clause-refused
 returns-in-Ok-clause-refused g c =
@@ -52,5 +49,5 @@ returns-in-Err-Foreign-clause-fault g c =
       o.0.bytes,
       first_came _ (Some c.search.new.input.reader.device.now) c.args.text.now o.0.bytes text_is o.2.0.left,
       c.in-Err-Foreign.field-0-0,
-      foreign_mark _ _ c.args.question.now c.args.form.now _ _ _ _ c.in-Err-Foreign.field-0 o.0 o.1 c.in-Err-Foreign.field-0-0 c.in-Err-Foreign.field-0-is o.5,
+      foreign_mark _ _ _ c.args.question.now c.args.form.now _ _ _ _ c.in-Err-Foreign.field-0 o.0 o.1 c.in-Err-Foreign.field-0-0 c.in-Err-Foreign.field-0-is o.5,
     )

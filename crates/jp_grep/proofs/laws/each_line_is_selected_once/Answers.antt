@@ -1,6 +1,6 @@
 -- The query `$` selects each value, and no line that is refused.
 use Rattle.std.proofs.Common.{◌≡◌, ◌∙◌, ◌+◌, ℕ, List, [], ◌∷◌, ◌++◌, append-nil, filter, flat_map, length, refl, ap, ap₂, Bool, true, false, cond, ◌&&◌, if◌then◌else◌, Option, None}
-use Rattle.std.specs.List.{concat}
+use Rattle.jp_sink.specs.Events.{Event, row_event, text_of}
 use denote.Ref.{Bor}
 use Rattle.jp_model.specs.declared.Framing.TheVariants as framings
 use Rattle.jp_model.specs.Json.Status.{LineStatus, blank, refused, parsed}
@@ -12,7 +12,7 @@ use Rattle.jp_grep.specs.Conditions.{Condition}
 use Rattle.jp_model.specs.Rows.{line_feed}
 use Rattle.jp_grep.specs.Matching.{all_hold, each_of, is_selected, let_match, matches, nodes_asked, queries_of, selected_nodes, selected_of, selects, wants_refused, wants_value}
 use Rattle.jp_grep.specs.Once.{AsksRoot, bare_lines}
-use Rattle.jp_grep.specs.Rows.{selected_rows, status_rows}
+use Rattle.jp_grep.specs.Rows.{selected_events, status_events}
 use Rattle.jp_form.specs.declared.form.Summary.{Summary}
 use Rattle.jp_grep.specs.declared.question.Queries.{Queries}
 use Rattle.jp_grep.specs.declared.question.Queries.TheVariants as purposes
@@ -51,28 +51,30 @@ by_one root other asks refuses (parsed t) present = ap₂ (λ (a b : List Node).
 
 module _ (summary : Summary) (name told : Bor (List ℕ)) (silent : Bool) (most n : ℕ) (line : List ℕ) where
   -- no row stands around others
-  all_rows : (q : Question) (s : LineStatus) → status_rows q (bare_lines summary name told silent most) n line None s ≡ selected_rows q (bare_lines summary name told silent most) n line None s
-  all_rows q s = append-nil (selected_rows q (bare_lines summary name told silent most) n line None s)
+  all_rows : (q : Question) (s : LineStatus) → status_events q (bare_lines summary name told silent most) n line None s ≡ selected_events q (bare_lines summary name told silent most) n line None s
+  all_rows q s = append-nil (selected_events q (bare_lines summary name told silent most) n line None s)
 
   one_selected : (root other : Question) → AsksRoot root → other.wanted ≡ wanted.Refused → (s : LineStatus) → ¬ (s ≡ blank)
-      → concat (selected_rows root (bare_lines summary name told silent most) n line None s) ++ concat (selected_rows other (bare_lines summary name told silent most) n line None s) ≡ line ++ line_feed
+      → text_of (selected_events root (bare_lines summary name told silent most) n line None s) ++ text_of (selected_events other (bare_lines summary name told silent most) n line None s) ≡ line ++ line_feed
   one_selected root other asks refuses blank present = absurd (present refl)
   one_selected root other asks refuses (refused fault) present =
-      ap₂ (λ (a b : Bool). concat (if a then (line ++ line_feed) ∷ [] else []) ++ concat (if b then (line ++ line_feed) ∷ [] else [])) (ap wants_refused asks.wanted) (ap wants_refused refuses)
+      ap₂ (λ (a b : Bool). text_of (if a then row_event true (line ++ line_feed) ∷ [] else []) ++ text_of (if b then row_event true (line ++ line_feed) ∷ [] else [])) (ap wants_refused asks.wanted) (ap wants_refused refuses)
       ∙ append-nil (line ++ line_feed)
   one_selected root other asks refuses (parsed t) present =
-      let rows : List Node → List ℕ = λ ns. concat (flat_map (λ (node : Node). (line ++ line_feed) ∷ []) ns) in
+      let rows : List Node → List ℕ = λ ns. text_of (flat_map (λ (node : Node). row_event true (line ++ line_feed) ∷ []) ns) in
       ap₂ (λ (a b : List Node). rows a ++ rows b) (one_of root t asks) (none_of other t refuses)
       ∙ append-nil (rows (root_node t ∷ []))
       ∙ append-nil (line ++ line_feed)
 
   one_row : (root other : Question) → AsksRoot root → other.wanted ≡ wanted.Refused → (s : LineStatus) → ¬ (s ≡ blank)
-      → concat (status_rows root (bare_lines summary name told silent most) n line None s) ++ concat (status_rows other (bare_lines summary name told silent most) n line None s) ≡ line ++ line_feed
+      → text_of (status_events root (bare_lines summary name told silent most) n line None s) ++ text_of (status_events other (bare_lines summary name told silent most) n line None s) ≡ line ++ line_feed
   one_row root other asks refuses s present =
-      ap₂ (λ (a b : List (List ℕ)). concat a ++ concat b) (all_rows root s) (all_rows other s) ∙ one_selected root other asks refuses s present
+      ap₂ (λ (a b : List Event). text_of a ++ text_of b) (all_rows root s) (all_rows other s) ∙ one_selected root other asks refuses s present
 
 pub returns : goal.returns
 returns c = λ root other asks refuses summary name told silent most n line present. record {
   once = by_one root other asks refuses (status_of framings.Lines line) present;
-  same = one_row summary name told silent most n line root other asks refuses (status_of framings.Lines line) present;
+  same = ap₂ (λ (a b : List Event). text_of a ++ text_of b) (append-nil (status_events root (bare_lines summary name told silent most) n line None (status_of framings.Lines line)))
+      (append-nil (status_events other (bare_lines summary name told silent most) n line None (status_of framings.Lines line)))
+      ∙ one_row summary name told silent most n line root other asks refuses (status_of framings.Lines line) present;
 }

@@ -15,11 +15,14 @@ returns-then-body-at-eq92 c =
 
 pub returns-then-at-end : goal.returns-then-at-end
 returns-then-at-end c =
-    let special : is_special (byte_at c.args.body.now c.args.at) ≡ true = subst (λ k. is_special (byte_at c.args.body.now k) ≡ true) (sym c.if-at-end.true) (c.first_special-end.ensures.stops (omega arith)) in
+    let special : is_special (byte_at c.args.body.now c.args.at) ≡ true = subst (λ k. is_special (byte_at c.args.body.now k) ≡ true) (sym c.if-at-end.true) ((c.special_end-end.ensures c.args.body.now c.requires.place (omega (arith, c.requires.inside))).stops (omega arith)) in
     special_stops c.args.body.now c.args.at c.requires.inside special c.if-body-at-eq92.false
 
 pub returns : goal.returns
 returns c =
-    let run = c.first_special-end.ensures in
-    let some : c.args.at < c.first_special-end.result = omega (arith, run.order) in
-    run_advances c.args.body.now c.args.at c.first_special-end.result c.args.seen c.with_scalars.result some run.within c.requires.utf8 run.plain run.stops c.with_scalars.ensures.high c.with_scalars.ensures.first
+    let run = c.special_end-end.ensures c.args.body.now c.requires.place (omega (arith, c.requires.inside)) in
+    let some : c.args.at < c.special_end-end.result = omega (arith, run.order) in
+    run_advances c.args.body.now c.args.at c.special_end-end.result c.args.seen c.with_scalars.result some run.within c.requires.utf8 run.plain run.stops c.with_scalars.ensures.high c.with_scalars.ensures.first
+
+pub special_end-end-requires : goal.special_end-end-requires
+special_end-end-requires c = (c.args.body.now, c.requires.place, omega (arith, c.requires.inside))

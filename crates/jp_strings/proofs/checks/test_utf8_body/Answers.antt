@@ -1,17 +1,17 @@
-use Rattle.std.proofs.Common.{◌≡◌, ◌∙◌, sym, arith, length, true, false}
-use Rattle.jp_strings.proofs.Answers.{no_body, reached}
+use Rattle.std.proofs.Common.{◌≡◌, ◌∙◌, ◌-◌, ℕ, List, length, take, ap, sym, subst, arith}
+use Rattle.std.specs.Str.{IsUtf8}
+use Rattle.std.proofs.lemmas.List.{take_all}
+use Rattle.std.specs.Result.{MatchResult}
+use Rattle.jp_model.specs.Json.Places.{bytes_between}
+use Rattle.jp_strings.specs.Points.{IsText}
+use Rattle.jp_strings.specs.Faults.{HasFault}
 use Rattle.jp_strings.proofs.checks.test_utf8_body.Goals as goal
 
-pub returns-then-has_lone : goal.returns-then-has_lone
-returns-then-has_lone c =
-    let end : c.loop-at.at ≡ length c.args.body.now = (let w = c.loop-at.invariant.within in omega arith) in
-    reached c.args.body.now c.loop-at.at c.loop-at.seen true c.loop-at.invariant.same end (sym c.has_lone.ensures ∙ c.if-has_lone.true)
+whole : (body : List ℕ) → bytes_between body 0 (length body) ≡ body
+whole body = let all : length body - 0 ≡ length body = omega arith in ap (λ n. take n body) all ∙ take_all (length body) body (omega arith)
+
+pub test_utf8_within-requires-clause-utf8 : goal.test_utf8_within-requires-clause-utf8
+test_utf8_within-requires-clause-utf8 c = subst IsUtf8 (sym (whole c.args.body.now)) c.requires
 
 pub returns : goal.returns
-returns c =
-    let end : c.loop-at.at ≡ length c.args.body.now = (let w = c.loop-at.invariant.within in omega arith) in
-    let found = reached c.args.body.now c.loop-at.at c.loop-at.seen false c.loop-at.invariant.same end (sym c.has_lone.ensures ∙ c.if-has_lone.false) in
-    record { points = found.0; spelled = found.1; is_whole = found.2 }
-
-pub returns-in_default : goal.returns-in_default
-returns-in_default c = no_body c.args.body.now c.loop-at.at c.loop-at.seen c.loop-at.invariant.same c.in_default.ensures
+returns c = subst (λ (xs : List ℕ). MatchResult c.test_utf8_within.result (λ _. IsText xs) (HasFault xs)) (whole c.args.body.now) c.test_utf8_within.ensures

@@ -1,8 +1,6 @@
 -- The survey is what is left to be read, and only the condition is refused.
-use Rattle.std.proofs.Common.{ℕ, List, [], subst, sym}
-use Rattle.jp_c.specs.Asked.{Asks, TellsRefusedQuestion}
-use Rattle.jp_c.specs.Surveyed.{IsSurveyOf, TellsSurveyFault}
-use Rattle.jp_c.specs.declared.filter.Rows.{Rows}
+use Rattle.std.proofs.Common.{ℕ, List, subst, sym}
+use Rattle.jp_c.specs.Surveyed.{IsSurveyOfFound, TellsSurveyFault}
 use Rattle.jp_c.specs.declared.question.FilterFault.{FilterFault}
 use Rattle.jp_c.proofs.Answering.{survey_refused}
 use Rattle.jp_c.proofs.Asking.{handed_on}
@@ -13,12 +11,10 @@ returns-in_err-question-clause-fault c =
     let text : List ℕ = c.args.text.now in
     let condition : List ℕ = c.args.condition.now in
     let fault : FilterFault = c.in_err-question.field-0.0 in
-    let refused = subst (λ (r : Rows). TellsRefusedQuestion fault condition [] r.queries) c.line_rows.ensures c.in_err-question.ensures.refused in
-    handed_on (λ (f : FilterFault). TellsSurveyFault f text condition) c.from_residual.result fault c.from_residual.ensures.1 (survey_refused fault text condition refused)
+    handed_on (λ (f : FilterFault). TellsSurveyFault f text condition) c.from_residual.result fault c.from_residual.ensures.1 (survey_refused fault text condition c.in_err-question.ensures.refused)
 
 pub returns-clause-found : goal.returns-clause-found
 returns-clause-found c =
     let question = c.in_ok-question.question in
-    let asks = subst (λ (r : Rows). Asks c.args.condition.now [] r.queries question) c.line_rows.ensures c.in_ok-question.ensures.asks in
-    let found = c.in_ok-found.ensures.found in
-    (found.0, (question, asks, found.1), subst (λ (left : List ℕ). IsSurveyOf found.0 c.args.fold left) (sym c.keep-2.ensures.left) found.2)
+    let found = subst (λ (left : List ℕ). IsSurveyOfFound question c.args.text.now c.args.fold left) (sym c.keep-2.ensures.left) c.in_ok-found.ensures.found in
+    (question, c.in_ok-question.ensures.asks, found)

@@ -1,21 +1,26 @@
--- The row that is selected is shown after those that are kept.
-use Rattle.std.proofs.Common.{◌∙◌, ℕ, List, [], ◌∷◌, ◌++◌, Global, Vec, ap, ap₂, arith, sym}
-use Rattle.std.proofs.lemmas.List.{length-map}
-use Rattle.jp_context.specs.Steps.{kept_rows, kept_texts, show_all, text_from}
-use Rattle.jp_context.specs.declared.shown.Shown.TheVariants as showing
-use Rattle.jp_context.specs.declared.state.Layout.{Layout}
-use Rattle.jp_context.proofs.Kept.{selects, shown_last, texts_of}
+-- The row is shown after those that are kept.
+use Rattle.std.proofs.Common.{◌∙◌, ◌++◌, ℕ, List, Err, Ok, ap}
+use Rattle.jp_context.proofs.Showing.{after_selected, selected_part, selected_whole}
+use Rattle.jp_context.proofs.Writing.{writes_less}
 use Rattle.jp_context.proofs.state.Groups.select.Goals as goal
+use Rattle.jp_sink.specs.Texts.{written}
+use Rattle.jp_sink.proofs.Texts.{both_written}
+
+pub returns-in_err-show_front-clause-shows : goal.returns-in_err-show_front-clause-shows
+returns-in_err-show_front-clause-shows g c =
+    let old = c.args.self.now in let from = c.args.text.now in let to = c.show_front.new.text in let fault = c.in_err-show_front.field-0.0 in
+    selected_part old from to c.args.row.now c.show_front.new.self c.from_residual.result fault c.from_residual.ensures.1
+    (writes_less from to fault _ c.args.row.now c.in_err-show_front.ensures.written)
+
+pub returns-in_err-put-clause-shows : goal.returns-in_err-put-clause-shows
+returns-in_err-put-clause-shows g c =
+    let old = c.args.self.now in let from = c.args.text.now in let to = c.put.new.self in let fault = c.in_err-put.field-0.0 in
+    selected_part old from to c.args.row.now c.show_front.new.self c.from_residual-in_err-put.result fault c.from_residual-in_err-put.ensures.1
+    (both_written (Err fault) from c.show_front.new.text to _ c.args.row.now c.in_ok-show_front.ensures.written c.in_err-put.ensures.written)
 
 pub returns-clause-shows : goal.returns-clause-shows
-returns-clause-shows c more =
-    let s = c.args.self.now in let coloured = s.layout.coloured in let before = s.layout.before in let after = s.layout.after in let row = c.args.row.now in
-    let texts = kept_texts s in let mid = c.show_kept.new.self in
-    let text = c.args.text.now.items in let all = c.show.new.text.items in
-    let same = length-map s.kept.items (λ (r : Vec ℕ Global). r.items) in
-    let rest = text_from coloured before after after showing.Neighbour more in
-    ap (λ (t : List ℕ). text ++ t) (selects coloured before after s.left s.shown texts row more (λ h. ap texts_of (s.none h)) (omega (arith, s.few, same)))
-    ∙ (shown_last mid.layout.coloured text c.show_kept.new.text.items all (show_all coloured s.shown (texts ++ row ∷ [])) rest row mid.shown
-    (c.in_ok-show_kept.ensures.shows (row ∷ [])) c.in_ok-show.ensures
-    ∙ ap (λ (t : List ℕ). all ++ t) (sym (ap₂ (λ (layout : Layout) (rows : List (Vec ℕ Global)). text_from layout.coloured layout.before layout.after layout.after showing.Neighbour (kept_rows (texts_of rows) ++ more))
-    c.show_kept.ensures.layout c.in_ok-show_kept.ensures.kept)))
+returns-clause-shows g c more =
+    let old = c.args.self.now in let from = c.args.text.now in let to = c.put.new.self in
+    selected_whole old from to c.args.row.now more
+    (both_written (Ok (tt {0})) from c.show_front.new.text to _ c.args.row.now c.in_ok-show_front.ensures.written c.in_ok-put.ensures.written)
+    ∙ ap (λ (t : List ℕ). written to ++ t) (after_selected old.layout c.show_front.new.self.layout c.show_front.new.self.kept.items more c.show_front.ensures.layout c.in_ok-show_front.ensures.kept)

@@ -6,11 +6,13 @@ use Rattle.std.proofs.lemmas.List.{take_more}
 use Rattle.std.proofs.lemmas.Option.{get_or_from_slice_get}
 use Rattle.jp_devices.specs.Devices.{Received}
 use Rattle.jp_devices.proofs.Chains.{Part, both_received, ends_in_part}
-use Rattle.jp_grep.specs.Holding.{HoldsBack, HoldsPart}
+use Rattle.jp_sink.specs.Events.{Event}
+use Rattle.jp_sink.specs.Telling.{Takes}
+use Rattle.jp_grep.specs.Telling.{TakesPart}
 use Rattle.jp_grep.specs.Items.{Item, is_given_up, is_unjudged}
 use Rattle.jp_grep.specs.Outcomes.{CameOfEach}
 use Rattle.jp_grep.specs.ReadItems.{item_of, items_of}
-use Rattle.jp_grep.specs.Rows.{item_message, item_rows, messages_from, output_from, refused_count, refused_item, selected_in}
+use Rattle.jp_grep.specs.Rows.{events_from, item_events, item_message, messages_from, refused_count, refused_item, selected_in}
 use Rattle.jp_grep.specs.Searching.{GoesOnBy, answered_after}
 use Rattle.jp_grep.specs.Watching.{cut_to}
 use Rattle.jp_grep.proofs.Advancing.{none_answered, none_by, says_nothing}
@@ -63,19 +65,18 @@ pub loop-index-init : goal.loop-index-init
 loop-index-init g c =
     let q = c.args.self.question.now in
     let f = c.args.self.form.now in
-    let held = c.args.outlet.now.held.items in
     let none = none_answered q f c.args.progress.now in
     record {
       so_far = (
         [],
         refl,
         record { each = tt; by = subst (λ (ls : List Item). GoesOnBy q f c.args.progress.now c.args.progress.now ls) (sym none) (none_by q f c.args.progress.now c.requires.under_way) },
-        subst (λ (ls : List Item). HoldsBack g.W.Write.contents c.args.out.now c.args.out.now held held (output_from q f c.args.progress.now.number ls)) (sym none) (none_put c.args.out.now held),
+        subst (λ (ls : List Item). Takes g.S.Sink.stands c.args.sink.now c.args.sink.now (events_from q f c.args.progress.now.number ls)) (sym none) (none_put g.S.Sink.stands g.S.Sink.stopped c.args.sink.now),
         subst (λ (ls : List Item). Received g.E.Write.contents c.args.messages.now c.args.messages.now (messages_from f c.args.progress.now.counts.refused c.args.progress.now.number ls)) (sym none) (none_received c.args.messages.now),
       );
       writes = c.requires.open.0;
       reports = c.requires.open.1;
-      after = refl;
+      kept = (refl, refl);
       messages_after = refl;
     }
 
@@ -93,7 +94,7 @@ returns-then-is_done-clause-answers g c =
     record {
       outcomes = done ++ drop i all;
       each = subst (λ (ls : List Item). CameOfEach ls (done ++ drop i all)) (take-append-drop i all) (came_next (take i all) done (drop i all) (drop i all) so.2.each (came_same (drop i all)));
-      rows = subst (λ (ls : List Item). HoldsBack g.W.Write.contents c.args.out.now c.loop-index.out c.args.outlet.now.held.items c.loop-index.outlet.held.items (output_from q f before.number ls)) is so.3;
+      rows = subst (λ (ls : List Item). Takes g.S.Sink.stands c.args.sink.now c.loop-index.sink (events_from q f before.number ls)) is so.3;
       messages = subst (λ (ls : List Item). Received g.E.Write.contents c.args.messages.now c.loop-index.messages (messages_from f before.counts.refused before.number ls)) is so.4;
       progress = subst (λ (ls : List Item). GoesOnBy q f before c.loop-index.progress ls) is so.2.by;
     }
@@ -109,8 +110,7 @@ returns-in_err-verdict-clause-answers g c =
     let so = c.loop-index.invariant.so_far in
     let done = so.0 in
     let said = c.in_err-verdict.ensures.answers in
-    let out = c.answer_item.new.out in
-    let held = c.answer_item.new.outlet.held.items in
+    let out = c.answer_item.new.sink in
     let told = c.answer_item.new.messages in
     let r = c.from_residual.result in
     let failed = c.from_residual.ensures.0 in
@@ -121,14 +121,14 @@ returns-in_err-verdict-clause-answers g c =
     let short = c.is_done.ensures.more c.if-is_done.false in
     let cut = cut_to (f.most - c.loop-index.progress.counts.selected) said.outcome in
     let next = one_more q f before done c.loop-index.progress so.2.by short said.outcome rest in
-    let rows = subst (λ k. HoldsPart g.W.Write.contents c.loop-index.out out c.loop-index.outlet.held.items held (item_rows q f k cut)) so.2.by.number said.rows in
+    let rows = subst (λ k. TakesPart g.S.Sink.stands g.S.Sink.stopped c.loop-index.sink out (item_events q f k cut)) so.2.by.number said.rows in
     let part = subst (λ (l : List ℕ). Part g.E.Write.contents c.loop-index.messages told l) (ap₂ (λ j k. item_message f j k cut) so.2.by.refused so.2.by.number) said.message in
     record {
       outcomes = done ++ said.outcome ∷ rest;
       each = subst (λ (ls : List Item). CameOfEach ls (done ++ said.outcome ∷ rest)) (sym (around all i item within ∙ ap (λ (x : Item). (take i all ++ x ∷ []) ++ rest) (sym is) ∙ append_assoc (take i all) (item ∷ []) rest))
           (came_next (take i all) done (item ∷ rest) (said.outcome ∷ rest) so.2.each (said.came, came_same rest));
-      rows = ends_put r c.args.out.now out c.args.outlet.now.held.items held (output_from q f before.number (answered_after q f before (done ++ said.outcome ∷ rest))) failed
-          (put_next c.args.out.now c.loop-index.out out _ _ _ _ (item_rows q f (before.number + length answered) cut) _ _
+      rows = ends_put g.S.Sink.stands g.S.Sink.stopped r c.args.sink.now out (events_from q f before.number (answered_after q f before (done ++ said.outcome ∷ rest))) failed
+          (put_next g.S.Sink.stands g.S.Sink.stopped c.args.sink.now c.loop-index.sink out _ (item_events q f (before.number + length answered) cut) _ _
           (rows_around q f answered cut before.number _ next.0 next.1) so.3 rows);
       messages = ends_in_part r _ _ _ failed
           (part_next c.args.messages.now c.loop-index.messages told _ (item_message f (before.counts.refused + refused_count answered) (before.number + length answered) cut) _ _
@@ -150,8 +150,7 @@ loop-index-preserved g c =
     let by = so.2.by in
     let said = c.in_ok-verdict.ensures.answers in
     let tells = c.in_ok-verdict.ensures.tells in
-    let out = c.answer_item.new.out in
-    let held = c.answer_item.new.outlet.held.items in
+    let out = c.answer_item.new.sink in
     let told = c.answer_item.new.messages in
     let passed = c.pass.ensures in
     let now = c.pass.new.self in
@@ -161,7 +160,7 @@ loop-index-preserved g c =
     let short = c.is_done.ensures.more c.if-is_done.false in
     let cut = cut_to (f.most - c.loop-index.progress.counts.selected) said.outcome in
     let all_now = with_next q f before done c.loop-index.progress by short said.outcome in
-    let rows = subst (λ k. HoldsBack g.W.Write.contents c.loop-index.out out c.loop-index.outlet.held.items held (item_rows q f k cut)) by.number said.rows in
+    let rows = subst (λ k. Takes g.S.Sink.stands c.loop-index.sink out (item_events q f k cut)) by.number said.rows in
     let message = subst (λ (l : List ℕ). Received g.E.Write.contents c.loop-index.messages told l) (ap₂ (λ j k. item_message f j k cut) by.refused by.number) said.message in
     record {
       so_far = (
@@ -185,12 +184,12 @@ loop-index-preserved g c =
             };
           });
         },
-        subst (λ (l : List ℕ). HoldsBack g.W.Write.contents c.args.out.now out c.args.outlet.now.held.items held l) (sym (ap (output_from q f before.number) all_now ∙ rows_more q f answered cut before.number)) (both_put c.args.out.now c.loop-index.out out _ _ _ _ _ so.3 rows),
+        subst (λ (l : List Event). Takes g.S.Sink.stands c.args.sink.now out l) (sym (ap (events_from q f before.number) all_now ∙ rows_more q f answered cut before.number)) (both_put g.S.Sink.stands g.S.Sink.stopped c.args.sink.now c.loop-index.sink out _ _ so.3 rows),
         subst (λ (l : List ℕ). Received g.E.Write.contents c.args.messages.now told l) (sym (ap (messages_from f before.counts.refused before.number) all_now ∙ messages_more q f answered cut before.counts.refused before.number)) (both_received _ _ _ _ _ so.4 message),
       );
       writes = tells.0;
       reports = tells.1;
-      after = tells.3 ∙ inv.after;
+      kept = (tells.3.0 ∙ inv.kept.0, tells.3.1 ∙ inv.kept.1);
       messages_after = tells.4 ∙ inv.messages_after;
     }
   where

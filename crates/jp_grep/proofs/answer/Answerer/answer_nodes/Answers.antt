@@ -1,12 +1,11 @@
 -- The rows are those of all values, or of the first.
 use Rattle.std.proofs.Common.{◌≡◌, ◌∙◌, [], Bool, Option, refl, sym, ap, subst, if◌then◌else◌}
 use Rattle.std.specs.Prelude.{MatchOption, is_some, ⊤}
-use Rattle.std.specs.List.{concat}
 use Rattle.std.proofs.lemmas.Bool.{false≢true}
 use Rattle.jp_nodes.specs.Cursors.{node_of}
 use Rattle.jp_grep.specs.Asked.{asked_tree}
 use Rattle.jp_grep.specs.Matching.{all_hold, conditions_of, let_match, queries_of, selects, wants_found}
-use Rattle.jp_grep.specs.Rows.{asked_rows, node_rows}
+use Rattle.jp_grep.specs.Rows.{asked_events, node_events}
 use Rattle.jp_grep.proofs.GivenUp.{all_values, found_as, no_answer, unasked}
 use Rattle.jp_grep.proofs.Putting.{ends_put, none_put}
 use Rattle.jp_grep.proofs.answer.Answerer.answer_nodes.Goals as goal
@@ -22,8 +21,8 @@ returns-in-Ok-false-clause-answers g c =
       rows = record {
         first = [];
         others = [];
-        split = ap (λ (b : Bool). if b then node_rows f.shown q f c.args.number c.args.text.now t node else []) other;
-        puts = none_put c.args.out.now c.args.outlet.now.held.items;
+        split = ap (λ (b : Bool). if b then node_events f.shown q f c.args.number c.args.text.now t node else []) other;
+        puts = none_put g.S.Sink.stands g.S.Sink.stopped c.args.sink.now;
         all = λ e. refl;
       };
       selected = sym other;
@@ -34,9 +33,9 @@ returns-in-Err-clause-answers g c =
     record {
       rows = record {
         first = [];
-        others = asked_rows c.args.self.question.now c.args.self.form.now c.args.number c.args.text.now (asked_tree c.args.asked.now) (node_of c.args.asked.now.node);
+        others = asked_events c.args.self.question.now c.args.self.form.now c.args.number c.args.text.now (asked_tree c.args.asked.now) (node_of c.args.asked.now.node);
         split = refl;
-        puts = none_put c.args.out.now c.args.outlet.now.held.items;
+        puts = none_put g.S.Sink.stands g.S.Sink.stopped c.args.sink.now;
         all = λ e. absurd (false≢true e);
       };
       selected = tt;
@@ -55,7 +54,7 @@ returns-in_err-some-clause-answers g c =
         first = put.first;
         others = put.others;
         split = all ∙ put.split;
-        puts = ends_put r c.args.out.now c.put_nodes.new.out c.args.outlet.now.held.items c.put_nodes.new.outlet.held.items (concat put.first) failed put.puts;
+        puts = ends_put g.S.Sink.stands g.S.Sink.stopped r c.args.sink.now c.put_nodes.new.sink put.first failed put.puts;
         all = no_answer _ r failed;
       };
       selected = no_answer _ r failed;

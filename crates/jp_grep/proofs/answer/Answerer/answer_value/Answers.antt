@@ -1,22 +1,21 @@
 -- The rows of one node come after those of the nodes before it.
 use Rattle.std.proofs.Common.{◌≡◌, ◌∙◌, ◌++◌, ◌+◌, ◌≤◌, ◌<◌, [], ◌∷◌, List, ℕ, Bool, true, false, Option, None, Some, drop, filter, flat_map, get_or, length, length-append, map, take, take-append-drop, append_assoc, refl, sym, ap, subst, arith, cond}
 use Rattle.std.specs.Prelude.{IfSome, MatchOption, is_some, ⊤}
-use Rattle.std.specs.List.{concat}
 use Rattle.std.proofs.lemmas.List.{map-append, take_more, take_all}
 use Rattle.std.proofs.lemmas.List.Elements.{filter-append}
-use Rattle.std.proofs.lemmas.List.Folds.{concat-append}
 use Rattle.jp_model.specs.Meaning.Nodes.{Node}
 use Rattle.jp_lines.specs.Views.{text_of_view, tree_of_view}
 use Rattle.jp_nodes.specs.Cursors.{node_of}
 use Rattle.jp_nodes.specs.declared.cursor.Cursor.{Cursor}
-use Rattle.jp_grep.specs.Holding.{HoldsBack}
+use Rattle.jp_sink.specs.Events.{Event}
+use Rattle.jp_sink.specs.Telling.{Takes}
 use Rattle.jp_grep.specs.LineAnswers.{Knows}
 use Rattle.jp_grep.specs.Matching.{each_of, is_selected, nodes_asked}
-use Rattle.jp_grep.specs.Rows.{asked_rows}
+use Rattle.jp_grep.specs.Rows.{asked_events}
 use Rattle.jp_grep.proofs.Asking.{all_count, all_wanted, enough_count, enough_wanted, first_rows, next_wanted}
 use Rattle.jp_grep.proofs.GivenUp.{no_answer}
 use Rattle.jp_grep.proofs.Putting.{both_put, ends_put, none_put, put_next}
-use Rattle.jp_grep.proofs.RowLists.{all_first, concat_around, first_written, part_of_rows}
+use Rattle.jp_grep.proofs.RowLists.{all_first, first_told, part_of_first}
 use Rattle.jp_grep.proofs.Written.{around, by_ok, given_more}
 use mir.Val.{bool_byte}
 use Rattle.jp_grep.proofs.answer.Answerer.answer_value.Goals.{else-loop-node-test, then-loop-node-test+then-selected-most}
@@ -26,7 +25,7 @@ pub returns-in_default-clause-answers : goal.returns-in_default-clause-answers
 returns-in_default-clause-answers g c =
     record {
       given_up = Some 0;
-      rows = none_put c.args.out.now c.args.outlet.now.held.items;
+      rows = none_put g.S.Sink.stands g.S.Sink.stopped c.args.sink.now;
       verdict = record { selected = c.of_given_up.ensures.selected; refused = c.of_given_up.ensures.refused; given_up = c.of_given_up.ensures.given_up };
     }
 
@@ -34,7 +33,7 @@ pub returns-then-is_err-clause-answers : goal.returns-then-is_err-clause-answers
 returns-then-is_err-clause-answers g c =
     record {
       given_up = Some 0;
-      rows = none_put c.args.out.now c.args.outlet.now.held.items;
+      rows = none_put g.S.Sink.stands g.S.Sink.stopped c.args.sink.now;
       verdict = record { selected = c.of_given_up-then-is_err.ensures.selected; refused = c.of_given_up-then-is_err.ensures.refused; given_up = c.of_given_up-then-is_err.ensures.given_up };
     }
 
@@ -42,11 +41,11 @@ pub loop-node-init : goal.loop-node-init
 loop-node-init g c =
     let line = text_of_view c.args.line in
     record {
-      rows = none_put c.args.out.now c.args.outlet.now.held.items;
+      rows = none_put g.S.Sink.stands g.S.Sink.stopped c.args.sink.now;
       selected = refl;
       wanted = omega arith;
       working = c.requires.working;
-      after = refl;
+      kept = (refl, refl);
       knows = by_ok c.begin.result (Knows c.args.self.question.now line c.begin.new.self) (sym c.is_err.ensures.value ∙ c.if-is_err.false) (c.begin.ensures line);
     }
 
@@ -85,17 +84,17 @@ returns-in_err-is_selected-clause-answers g c =
     let r = c.from_residual.result in
     let failed = c.from_residual.ensures.0 in
     let put = c.in_err-is_selected.ensures.answers.rows in
-    let rows = asked_rows q f c.args.number c.args.text.now t in
+    let rows = asked_events q f c.args.number c.args.text.now t in
     let asked = nodes_asked (each_of q) t in
     let done = flat_map rows (map node_of (take i nodes)) in
     let fewer : length (filter (is_selected q t) (map node_of (take i nodes))) < c.args.most = omega (arith, c.loop-node.invariant.selected, c.loop-node.invariant.wanted, c.if-selected-most.false) in
     let next = next_wanted q f c.args.number c.args.text.now t c.args.most (map node_of (take i nodes)) (node_of node) (map node_of (drop (i + 1) nodes)) fewer in
     let all = ap (first_rows q f c.args.number c.args.text.now t c.args.most) (nodes_around nodes i node asked c.loop-node-test.true c.node-item.is c.in-Ok.ensures.nodes) ∙ next.1 in
-    let part = part_of_rows c.loop-node.out c.answer_node.new.out c.loop-node.outlet.held.items c.answer_node.new.outlet.held.items (rows (node_of node)) put.first put.others put.split put.puts in
+    let part = part_of_first g.S.Sink.stands g.S.Sink.stopped c.loop-node.sink c.answer_node.new.sink (rows (node_of node)) put.first put.others put.split put.puts in
     record {
       given_up = None;
-      rows = ends_put r c.args.out.now c.answer_node.new.out c.args.outlet.now.held.items c.answer_node.new.outlet.held.items (concat (first_rows q f c.args.number c.args.text.now t c.args.most asked)) failed
-          (put_next c.args.out.now c.loop-node.out c.answer_node.new.out _ _ _ (concat done) (concat (rows (node_of node))) (concat next.0) _ (concat_around _ done (rows (node_of node)) next.0 all)
+      rows = ends_put g.S.Sink.stands g.S.Sink.stopped r c.args.sink.now c.answer_node.new.sink (first_rows q f c.args.number c.args.text.now t c.args.most asked) failed
+          (put_next g.S.Sink.stands g.S.Sink.stopped c.args.sink.now c.loop-node.sink c.answer_node.new.sink done (rows (node_of node)) next.0 _ all
           c.loop-node.invariant.rows part);
       verdict = no_answer _ r failed;
     }
@@ -109,21 +108,21 @@ returns-in-None-clause-answers g c =
     let i = c.loop-node.node-index in
     let node = c.node-item.result in
     let put = c.in_ok-is_selected.ensures.answers.rows in
-    let rows = asked_rows q f c.args.number c.args.text.now t in
+    let rows = asked_events q f c.args.number c.args.text.now t in
     let asked = nodes_asked (each_of q) t in
     let done = flat_map rows (map node_of (take i nodes)) in
     let fewer : length (filter (is_selected q t) (map node_of (take i nodes))) < c.args.most = omega (arith, c.loop-node.invariant.selected, c.loop-node.invariant.wanted, c.if-selected-most.false) in
     let next = next_wanted q f c.args.number c.args.text.now t c.args.most (map node_of (take i nodes)) (node_of node) (map node_of (drop (i + 1) nodes)) fewer in
     let all = ap (first_rows q f c.args.number c.args.text.now t c.args.most) (nodes_around nodes i node asked c.loop-node-test.true c.node-item.is c.in-Ok.ensures.nodes) ∙ next.1 in
     let split = all
-    ∙ ap (λ (l : List (List ℕ)). (done ++ l) ++ next.0) put.split
-    ∙ ap (λ (l : List (List ℕ)). l ++ next.0) (sym (append_assoc done put.first put.others))
+    ∙ ap (λ (l : List Event). (done ++ l) ++ next.0) put.split
+    ∙ ap (λ (l : List Event). l ++ next.0) (sym (append_assoc done put.first put.others))
     ∙ append_assoc (done ++ put.first) put.others next.0 in
     record {
       given_up = Some (length (done ++ put.first));
-      rows = subst (λ (l : List ℕ). HoldsBack g.W.Write.contents c.args.out.now c.answer_node.new.out c.args.outlet.now.held.items c.answer_node.new.outlet.held.items l)
-          (sym (first_written (first_rows q f c.args.number c.args.text.now t c.args.most asked) (done ++ put.first) (put.others ++ next.0) split ∙ concat-append done put.first))
-          (both_put c.args.out.now c.loop-node.out c.answer_node.new.out _ _ _ _ _ c.loop-node.invariant.rows put.puts);
+      rows = subst (λ (l : List Event). Takes g.S.Sink.stands c.args.sink.now c.answer_node.new.sink l)
+          (sym (first_told (first_rows q f c.args.number c.args.text.now t c.args.most asked) (done ++ put.first) (put.others ++ next.0) split))
+          (both_put g.S.Sink.stands g.S.Sink.stopped c.args.sink.now c.loop-node.sink c.answer_node.new.sink _ _ c.loop-node.invariant.rows put.puts);
       verdict = record { selected = c.of_given_up-in-None.ensures.selected; refused = c.of_given_up-in-None.ensures.refused; given_up = c.of_given_up-in-None.ensures.given_up };
     }
 
@@ -136,23 +135,23 @@ loop-node-preserved g c =
     let i = c.loop-node.node-index in
     let node = c.node-item.result in
     let said = c.in_ok-is_selected.ensures.answers in
-    let rows = asked_rows q f c.args.number c.args.text.now t in
+    let rows = asked_events q f c.args.number c.args.text.now t in
     let done = flat_map rows (map node_of (take i nodes)) in
     let mine : said.rows.first ≡ rows (node_of node) = all_first (rows (node_of node)) said.rows.first said.rows.others said.rows.split (said.rows.all (ap is_some c.in-Some.is)) in
     let selected : c.in-Some.is_selected ≡ is_selected q t (node_of node) = subst (λ (o : Option Bool). MatchOption o ⊤ (λ (b : Bool). b ≡ is_selected q t (node_of node))) c.in-Some.is said.selected in
     let front : map node_of (take (i + 1) nodes) ≡ map node_of (take i nodes) ++ node_of node ∷ [] =
     ap (map node_of) (take_more nodes i node c.loop-node-test.true ∙ ap (λ (x : Cursor). take i nodes ++ x ∷ []) (sym c.node-item.is)) ∙ map-append node_of (take i nodes) (node ∷ []) in
     record {
-      rows = subst (λ (l : List ℕ). HoldsBack g.W.Write.contents c.args.out.now c.answer_node.new.out c.args.outlet.now.held.items c.answer_node.new.outlet.held.items l)
-          (sym (ap concat (given_more rows node_of nodes i node c.loop-node-test.true c.node-item.is) ∙ concat-append done (rows (node_of node))))
-          (both_put c.args.out.now c.loop-node.out c.answer_node.new.out _ _ _ _ _ c.loop-node.invariant.rows
-          (subst (λ (l : List (List ℕ)). HoldsBack g.W.Write.contents c.loop-node.out c.answer_node.new.out c.loop-node.outlet.held.items c.answer_node.new.outlet.held.items (concat l)) mine said.rows.puts));
+      rows = subst (λ (l : List Event). Takes g.S.Sink.stands c.args.sink.now c.answer_node.new.sink l)
+          (sym (given_more rows node_of nodes i node c.loop-node-test.true c.node-item.is))
+          (both_put g.S.Sink.stands g.S.Sink.stopped c.args.sink.now c.loop-node.sink c.answer_node.new.sink _ _ c.loop-node.invariant.rows
+          (subst (λ (l : List Event). Takes g.S.Sink.stands c.loop-node.sink c.answer_node.new.sink l) mine said.rows.puts));
       selected = ap (λ n. c.loop-node.selected + n) (c.from-selected.ensures ∙ ap bool_byte selected)
           ∙ ap (λ n. n + bool_byte (is_selected q t (node_of node))) c.loop-node.invariant.selected
           ∙ sym (ap (λ (ns : List Node). length (filter (is_selected q t) ns)) front ∙ one_more (is_selected q t) (map node_of (take i nodes)) (node_of node));
       wanted = omega (arith, c.loop-node.invariant.wanted, c.if-selected-most.false, c.from-selected.ensures, at_most_one c.in-Some.is_selected);
       working = c.in_ok-is_selected.ensures.tells.0;
-      after = c.in_ok-is_selected.ensures.tells.2 ∙ c.loop-node.invariant.after;
+      kept = (c.in_ok-is_selected.ensures.tells.2.0 ∙ c.loop-node.invariant.kept.0, c.in_ok-is_selected.ensures.tells.2.1 ∙ c.loop-node.invariant.kept.1);
       knows = subst (λ (o : Option Bool). IfSome o (λ (b : Bool). Knows q (text_of_view c.args.line) c.answer_node.new.room.answers)) c.in-Some.is c.in_ok-is_selected.ensures.knows;
     }
 
@@ -164,7 +163,7 @@ returns-clause-answers g c =
     let nodes = c.in-Ok.nodes.now in
     let i = c.loop-node.node-index in
     let most = c.args.most in
-    let rows = asked_rows q f c.args.number c.args.text.now t in
+    let rows = asked_events q f c.args.number c.args.text.now t in
     let asked = nodes_asked (each_of q) t in
     let front = map node_of (take i nodes) in
     let apart : asked ≡ front ++ map node_of (drop i nodes) = sym c.in-Ok.ensures.nodes ∙ ap (map node_of) (sym (take-append-drop i nodes)) ∙ map-append node_of (take i nodes) (drop i nodes) in
@@ -183,6 +182,6 @@ returns-clause-answers g c =
     ] in
     record {
       given_up = None;
-      rows = subst (λ (l : List (List ℕ)). HoldsBack g.W.Write.contents c.args.out.now c.loop-node.out c.args.outlet.now.held.items c.loop-node.outlet.held.items (concat l)) (sym both.0) c.loop-node.invariant.rows;
+      rows = subst (λ (l : List Event). Takes g.S.Sink.stands c.args.sink.now c.loop-node.sink l) (sym both.0) c.loop-node.invariant.rows;
       verdict = record { selected = c.of_value.ensures.selected ∙ both.1; refused = c.of_value.ensures.refused; given_up = c.of_value.ensures.given_up };
     }

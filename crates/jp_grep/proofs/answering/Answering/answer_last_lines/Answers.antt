@@ -34,7 +34,7 @@ returns-in_err-check_end-clause-ends g c =
     let said = c.in_err-check_end.ensures in
     record {
       items = [];
-      answers = answers_none q f g.W.Write.contents g.E.Write.contents c.args.self.now.progress c.args.out.now c.args.messages.now r c.requires.under_way;
+      answers = answers_none q f g.S.Sink.stands g.S.Sink.stopped g.E.Write.contents c.args.self.now.progress c.args.sink.now c.args.messages.now r c.requires.under_way;
       all = says_nothing _ r c.from_residual.ensures.0;
       first = λ came answered st. (items_come units true came, sym (ap (λ l. (l ++ []) ++ items_come units true came) (none_answered units came stream answered st said.1).0));
       framed = λ came answered st. handed _ _ r e c.from_residual.ensures.1 (λ other. absurd (apart (sym (ap is_front_fault said.0) ∙ other)));
@@ -61,7 +61,7 @@ returns-clause-ends g c =
     (all_answered framing came stream.held.items (in_lines units came stream answered st).lines stream.is_first (in_lines units came stream answered st).at) in
     record {
       items = map (line_item framing) lines;
-      answers = subst (λ (l : List ℕ). Answers g.W.Write.contents g.E.Write.contents q f c.args.self.now.progress c.answer_until.new.self.progress c.args.out.now c.answer_until.new.out c.args.messages.now c.answer_until.new.messages r
+      answers = subst (λ (l : List ℕ). Answers g.S.Sink.stands g.S.Sink.stopped g.E.Write.contents q f c.args.self.now.progress c.answer_until.new.self.progress c.args.sink.now c.answer_until.new.sink c.args.messages.now c.answer_until.new.messages r
           (map (line_item framing) (lines_in framing (text_of stream.is_first l)))) whole said.answers;
       all = holds_at_ok r all;
       first = λ came answered st. ([], all came answered st ∙ sym (append-nil (answered ++ map (line_item framing) lines)));

@@ -20,7 +20,7 @@ returns-in_err-find_last-clause-ends g c =
     let r = c.from_residual.result in
     record {
       items = [];
-      answers = answers_none q f g.W.Write.contents g.E.Write.contents c.args.self.now.progress c.args.out.now c.args.messages.now r c.requires.under_way;
+      answers = answers_none q f g.S.Sink.stands g.S.Sink.stopped g.E.Write.contents c.args.self.now.progress c.args.sink.now c.args.messages.now r c.requires.under_way;
       all = says_nothing _ r c.from_residual.ensures.0;
       first = λ came answered st. let first = first_come units came cutting answered st true [] in
           (first.0, ap (items_come units true) (sym (append-nil came)) ∙ first.1);

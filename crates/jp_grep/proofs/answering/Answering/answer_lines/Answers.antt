@@ -59,7 +59,7 @@ returns-in_err-hold-clause-advances g c =
     let r = c.from_residual.result in
     record {
       items = [];
-      answers = answers_none q f g.W.Write.contents g.E.Write.contents c.args.self.now.progress c.args.out.now c.args.messages.now r c.requires.under_way;
+      answers = answers_none q f g.S.Sink.stands g.S.Sink.stopped g.E.Write.contents c.args.self.now.progress c.args.sink.now c.args.messages.now r c.requires.under_way;
       position = says_nothing _ r c.from_residual.ensures.0;
       first = λ came answered st. let s = in_lines units came stream answered st in
           let none = none_first framing came stream.held.items bytes s.lines stream.is_first s.at in
@@ -85,7 +85,7 @@ returns-in_err-check_front-clause-advances g c =
     (subst (λ l. AreRefused c.hold.new.self.framing l e) held said.1) in
     record {
       items = [];
-      answers = answers_none q f g.W.Write.contents g.E.Write.contents c.args.self.now.progress c.args.out.now c.args.messages.now r c.requires.under_way;
+      answers = answers_none q f g.S.Sink.stands g.S.Sink.stopped g.E.Write.contents c.args.self.now.progress c.args.sink.now c.args.messages.now r c.requires.under_way;
       position = says_nothing _ r c.from_residual-in_err-check_front.ensures.0;
       first = λ came answered st. let s = in_lines units came stream answered st in
           let none = none_first framing came stream.held.items bytes s.lines stream.is_first s.at in
@@ -115,7 +115,7 @@ returns-in-None-clause-advances g c =
     let goes = goes_so framing stream.held.items bytes now.framing now.held.items stream.is_first now.is_first c.in_ok-hold.ensures.framing held first c.in_ok-check_front.ensures in
     record {
       items = [];
-      answers = answers_none q f g.W.Write.contents g.E.Write.contents c.args.self.now.progress c.args.out.now c.args.messages.now _ c.requires.under_way;
+      answers = answers_none q f g.S.Sink.stands g.S.Sink.stopped g.E.Write.contents c.args.self.now.progress c.args.sink.now c.args.messages.now _ c.requires.under_way;
       position = λ came answered st. let s = in_lines units came stream answered st in
           stand_more units came stream answered st now bytes []
           (subst (λ (ls : List (List ℕ)). IsAt framing (came ++ bytes) now.held.items ls now.is_first) (sym (append-nil s.lines))
@@ -150,10 +150,10 @@ returns-in_err-answer_until-in-Some-clause-advances g c =
     let lines = lines_in framing (text_of stream.is_first (stream.held.items ++ take end bytes)) in
     let said = c.in_err-answer_until-in-Some.ensures in
     let same = read_as now.framing framing now.is_first stream.is_first _ _ c.in_ok-hold.ensures.framing c.in_ok-hold.ensures.first front in
-    let answers = subst (λ (ls : List Item). Answers g.W.Write.contents g.E.Write.contents q f before after c.args.out.now c.answer_until.new.out c.args.messages.now c.answer_until.new.messages (Err e) ls) same said.answers in
+    let answers = subst (λ (ls : List Item). Answers g.S.Sink.stands g.S.Sink.stopped g.E.Write.contents q f before after c.args.sink.now c.answer_until.new.sink c.args.messages.now c.answer_until.new.messages (Err e) ls) same said.answers in
     record {
       items = map (line_item framing) lines;
-      answers = answers_in_part q f before after c.args.out.now c.answer_until.new.out c.args.messages.now c.answer_until.new.messages _ _ r c.from_residual-in_err-answer_until-in-Some.ensures.0 c.from_residual-in_err-answer_until-in-Some.ensures.1 answers;
+      answers = answers_in_part q f before after c.args.sink.now c.answer_until.new.sink c.args.messages.now c.answer_until.new.messages _ _ r c.from_residual-in_err-answer_until-in-Some.ensures.0 c.from_residual-in_err-answer_until-in-Some.ensures.1 answers;
       position = says_nothing _ r c.from_residual-in_err-answer_until-in-Some.ensures.0;
       first = λ came answered st. let s = in_lines units came stream answered st in
           let all = all_first framing came stream.held.items bytes (take end bytes) (drop end bytes) s.lines stream.is_first whole cut s.at in
@@ -181,7 +181,7 @@ returns-in_ok-answer_until-in-Some-clause-advances g c =
     let whole = sym (take-append-drop end bytes) in
     let lines = lines_in framing (text_of stream.is_first (stream.held.items ++ take end bytes)) in
     let said = c.in_ok-answer_until-in-Some.ensures in
-    let answers = subst (λ (ls : List Item). Answers g.W.Write.contents g.E.Write.contents q f before after c.args.out.now c.answer_until.new.out c.args.messages.now c.answer_until.new.messages (Ok tt) ls)
+    let answers = subst (λ (ls : List Item). Answers g.S.Sink.stands g.S.Sink.stopped g.E.Write.contents q f before after c.args.sink.now c.answer_until.new.sink c.args.messages.now c.answer_until.new.messages (Ok tt) ls)
     (read_as grown.framing framing grown.is_first stream.is_first _ _ c.in_ok-hold.ensures.framing c.in_ok-hold.ensures.first front) said.answers in
     let goes = goes_so framing stream.held.items bytes grown.framing grown.held.items stream.is_first grown.is_first c.in_ok-hold.ensures.framing c.in_ok-hold.ensures.held c.in_ok-hold.ensures.first c.in_ok-check_front.ensures in
     let parted = λ (first : stream.is_first ≡ true). subst (λ l. MayGoOn framing (stream.held.items ++ l)) whole (goes first) in

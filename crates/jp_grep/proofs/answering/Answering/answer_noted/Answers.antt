@@ -34,11 +34,11 @@ read_texts-requires-clause-within g c =
 
 pub returns-then-is_err-clause-answers : goal.returns-then-is_err-clause-answers
 returns-then-is_err-clause-answers g c =
-    answers_nothing c.args.answerer.question.now c.args.answerer.form.now g.W.Write.contents g.E.Write.contents c.args.self.now.progress c.args.out.now c.args.messages.now (Err faults.Memory) _ refl
+    answers_nothing c.args.answerer.question.now c.args.answerer.form.now g.S.Sink.stands g.S.Sink.stopped g.E.Write.contents c.args.self.now.progress c.args.sink.now c.args.messages.now (Err faults.Memory) _ refl
 
 pub returns-in_default-clause-answers : goal.returns-in_default-clause-answers
 returns-in_default-clause-answers g c =
-    answers_nothing c.args.answerer.question.now c.args.answerer.form.now g.W.Write.contents g.E.Write.contents c.args.self.now.progress c.args.out.now c.args.messages.now (Err faults.Memory) _ refl
+    answers_nothing c.args.answerer.question.now c.args.answerer.form.now g.S.Sink.stands g.S.Sink.stopped g.E.Write.contents c.args.self.now.progress c.args.sink.now c.args.messages.now (Err faults.Memory) _ refl
 
 pub returns-clause-answers : goal.returns-clause-answers
 returns-clause-answers g c =
@@ -47,8 +47,8 @@ returns-clause-answers g c =
     let listed = at_ok (c.list_spans.new.spans.items ≡ map span_of c.deref.result.now) c.list_spans.result c.is_err.result c.is_err.ensures.value c.if-is_err.false c.list_spans.ensures
     ∙ ap (map span_of) c.deref.ensures.value in
     let texts = c.in-Ok.ensures.texts ∙ ap₂ (λ (h : List ℕ) (s : List Span). map (text_at h) s) c.held.ensures (c.deref-2.ensures.value ∙ listed) ∙ texts_at held pieces in
-    subst (λ (items : List Item). Answers g.W.Write.contents g.E.Write.contents c.args.answerer.question.now c.args.answerer.form.now c.args.self.now.progress c.answer_items.new.progress
-    c.args.out.now c.answer_items.new.out c.args.messages.now c.answer_items.new.messages c.answer_items.result items)
+    subst (λ (items : List Item). Answers g.S.Sink.stands g.S.Sink.stopped g.E.Write.contents c.args.answerer.question.now c.args.answerer.form.now c.args.self.now.progress c.answer_items.new.progress
+    c.args.sink.now c.answer_items.new.sink c.args.messages.now c.answer_items.new.messages c.answer_items.result items)
     (c.of_pieces-items.ensures.items ∙ ap₂ (λ (ts : List (List ℕ)) (ps : List PieceAt). map piece_with (zip ts ps)) texts c.deref-3.ensures.value ∙ zipped (piece_text held) pieces) c.answer_items.ensures.answers
 
 pub returns-clause-size : goal.returns-clause-size

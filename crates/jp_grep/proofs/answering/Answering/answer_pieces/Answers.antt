@@ -20,7 +20,7 @@ returns-in_err-take_in-clause-advances g c =
     let e = c.in_err-take_in.field-0.0 in
     record {
       items = [];
-      answers = answers_none q f g.W.Write.contents g.E.Write.contents c.args.self.now.progress c.args.out.now c.args.messages.now r c.requires.under_way;
+      answers = answers_none q f g.S.Sink.stands g.S.Sink.stopped g.E.Write.contents c.args.self.now.progress c.args.sink.now c.args.messages.now r c.requires.under_way;
       position = says_nothing _ r c.from_residual.ensures.0;
       first = λ came answered st. first_come units came cutting answered st false bytes;
       size = handed_on _ r e c.from_residual.ensures.1 (λ is. inl (c.in_err-take_in.ensures.size is));
@@ -37,7 +37,7 @@ returns-then-cutting-clause-advances g c =
     let bytes = c.args.bytes.now in
     record {
       items = [];
-      answers = answers_none q f g.W.Write.contents g.E.Write.contents c.args.self.now.progress c.args.out.now c.args.messages.now _ c.requires.under_way;
+      answers = answers_none q f g.S.Sink.stands g.S.Sink.stopped g.E.Write.contents c.args.self.now.progress c.args.sink.now c.args.messages.now _ c.requires.under_way;
       position = λ came answered st. let s = in_pieces units came cutting answered st in
           stand_before units came cutting answered st c.take_in.new.self bytes (c.in_ok-take_in.ensures.taken (pieces_of_it units came cutting answered st) came s.handed s.at) c.if-cutting.true;
       first = λ came answered st. first_come units came cutting answered st false bytes;
@@ -56,7 +56,7 @@ returns-in_err-find_ended-clause-advances g c =
     let e = c.in_err-find_ended.field-0.0 in
     record {
       items = [];
-      answers = answers_none q f g.W.Write.contents g.E.Write.contents c.args.self.now.progress c.args.out.now c.args.messages.now r c.requires.under_way;
+      answers = answers_none q f g.S.Sink.stands g.S.Sink.stopped g.E.Write.contents c.args.self.now.progress c.args.sink.now c.args.messages.now r c.requires.under_way;
       position = says_nothing _ r c.from_residual-in_err-find_ended.ensures.0;
       first = λ came answered st. first_come units came cutting answered st false bytes;
       size = handed_on _ r e c.from_residual-in_err-find_ended.ensures.1 (λ is. absurd (memory_no_size e c.in_err-find_ended.ensures.fault is));

@@ -1,7 +1,8 @@
-use Rattle.std.proofs.Common.{◌≡◌, ℕ, ◌+◌, ◌≤◌, Bool, List, length, refl, arith}
+use Rattle.std.proofs.Common.{◌≡◌, ap, ℕ, ◌+◌, ◌≤◌, Bool, List, length, refl, arith}
 use Rattle.jp_model.specs.Json.Places.{Has, bytes_between}
 use Rattle.jp_model.specs.Json.Strings.{SpellsBody, has_lone_surrogate}
 use Rattle.jp_model.specs.Json.Spelling.{SpellsString}
+use Rattle.jp_lanes.specs.Search.{is_special}
 use Rattle.jp_strings.proofs.Slices.{body_of_slice, body_in_line}
 use Rattle.jp_tape.proofs.Bodies.{between_quotes}
 use Rattle.jp_tape.proofs.builder.tokens.is_lone_within.Goals as goal
@@ -28,5 +29,13 @@ returns-in-Err-Shape-clause-none c points h =
     let i = c.requires.closes.inside in
     t points (body_of_slice c.args.line.now points (c.args.from + 1) c.args.last (omega (arith, i)) h)
 
-pub test_utf8_body-requires : goal.test_utf8_body-requires
-test_utf8_body-requires c = between_quotes c.args.line.now c.args.from c.args.last c.requires.utf8 c.requires.opens c.requires.order c.requires.closes
+pub test_utf8_within-requires : goal.test_utf8_within-requires
+test_utf8_within-requires c =
+    let l = c.requires.closes in
+    let inside = l.inside in
+    record {
+      order = omega (arith, c.requires.order);
+      within = omega (arith, inside);
+      closes = λ more. ap is_special l.is;
+      utf8 = between_quotes c.args.line.now c.args.from c.args.last c.requires.utf8 c.requires.opens c.requires.order l;
+    }

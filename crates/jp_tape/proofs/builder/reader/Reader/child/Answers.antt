@@ -1,4 +1,4 @@
-use Rattle.std.proofs.Common.{ℕ, List, length, sym, ap, subst, refl, arith, length-drop, None, Some}
+use Rattle.std.proofs.Common.{ℕ, List, length, sym, ap, subst, arith, length-drop, None, Some}
 use Rattle.jp_model.specs.Json.Tree.{Container}
 use Rattle.jp_tape.specs.Ahead.{IsClosed}
 use Rattle.jp_tape.specs.Reader.{IsNamed}

@@ -1,0 +1,2 @@
+-- What is told, as text.
+pub mod Texts
