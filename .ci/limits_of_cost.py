@@ -4,7 +4,8 @@
 
 FOLDER is for files. A run of twice the size takes at most 2.3 times the time of the one before, and it ends as well where the program
 may have no more addresses than 60 times its input and its words, twice what it writes, and what it takes by itself: what costs the
-square of its input does neither.
+square of its input does neither. Other work on the machine makes a run longer, and never shorter: where a time is too long, the
+question is asked again up to six times, and the least time of each size counts.
 """
 import json
 import os
@@ -14,7 +15,8 @@ import subprocess
 import sys
 
 PROGRAM, FILTER, FOLDER = sys.argv[1:]
-DOUBLED, LEAST = 2.3, 0.05
+DOUBLED, LEAST, TURNS = 2.3, 0.05, 6
+SIZES = 1, 2, 4
 OWN, TIMES = 16 << 20, 60  # bytes
 
 
@@ -133,23 +135,30 @@ SHAPES |= {f"a text of two starts under {pattern[:40]}": (4_000, twice(*text), l
 SHAPES |= {f"{function} of many words as {spelled}": (2_000, twice("".join(WORDS[:3]), WORDS[-1]), lambda n, spelled=spelled, function=function: asked_of(function, spelled % OR)) for spelled, function in SPELLED.items()}
 
 
+def is_slow(seconds):
+    """Whether twice the size takes more than 2.3 times the time."""
+    return any(after > DOUBLED * before for before, after in zip(seconds, seconds[1:]))
+
+
 def main():
     checks = Checks()
     written("list", "1\n\"x\"\n")
     for name, (count, text, words) in SHAPES.items():
-        seconds = []
-        for size in (count, 2 * count, 4 * count):
-            lines = written("lines", text(size))
-            asked = [FILTER, *words(size), lines]
-            status, taken, rows = ran(asked, None)
+        asked, seconds = [], []
+        for size in (count * times for times in SIZES):
+            lines = written(f"lines{len(asked)}", text(size))
+            asked.append([FILTER, *words(size), lines])
+            status, taken, rows = ran(asked[-1], None)
             seconds.append(max(taken, LEAST))
             checks.check(f"{name}, {size}", status in (0, 1), f"status {status}")
-            most = OWN + TIMES * (os.path.getsize(lines) + sum(len(word) for word in asked)) + 2 * rows
-            again = ran(asked, most)[0]
+            most = OWN + TIMES * (os.path.getsize(lines) + sum(len(word) for word in asked[-1])) + 2 * rows
+            again = ran(asked[-1], most)[0]
             checks.check(f"memory of {name}, {size}", again == status, f"status {again} with {most} bytes, and {rows} are written")
-        told = ", ".join(f"{it:.2f}" for it in seconds)
-        for before, after in zip(seconds, seconds[1:]):
-            checks.check(f"seconds of {name}", after <= DOUBLED * before, told)
+        for _ in range(1, TURNS):
+            if not is_slow(seconds):
+                break
+            seconds = [max(LEAST, min(least, ran(words, None)[1])) for least, words in zip(seconds, asked)]
+        checks.check(f"seconds of {name}", not is_slow(seconds), ", ".join(f"{it:.2f}" for it in seconds))
     print(f"limits of cost: {checks.passed} passed, {checks.failed} failed, 0 skipped")
     return 1 if checks.failed else 0
 
