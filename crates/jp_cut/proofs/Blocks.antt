@@ -1,6 +1,6 @@
 -- The brackets of some bytes that stand outside strings, counted, and by the bits of a word.
-use Rattle.std.proofs.Common.{◌≡◌, ℕ, zero, suc, ◌+◌, ◌-◌, ◌/◌, ◌%◌, ◌^◌, ◌<◌, ◌≤◌, Bool, true, false, not, cond, ◌&&◌, ◌||◌, List, [], ◌∷◌, length, take, get_or, map, refl, sym, ap, ap₂, subst, ◌∙◌, arith}
-use Rattle.std.proofs.lemmas.Bool.Decides.{nat_tests}
+use Rattle.std.proofs.Common.{◌≡◌, ℕ, zero, suc, ◌+◌, ◌-◌, ◌/◌, ◌%◌, ◌^◌, ◌<◌, ◌≤◌, Bool, true, false, not, cond, ◌&&◌, ◌||◌, List, [], ◌∷◌, ◌++◌, length, take, get_or, map, refl, sym, ap, ap₂, subst, ◌∙◌, arith, inl, inr}
+use Rattle.std.proofs.lemmas.Bool.Decides.{eqb_tells, nat_tests}
 use native.Mathlib.Nat.{pow-suc}
 use Rattle.std.proofs.lemmas.List.{length-map, take_all, take_more, get_or-map}
 use Rattle.std.proofs.lemmas.Nat.Bits.{bit_at_lowest, bit_at-suc}
@@ -16,10 +16,10 @@ use Rattle.jp_masks.specs.declared.block.Carry.{Carry}
 use Rattle.jp_masks.proofs.Bits.{says_and}
 use Rattle.jp_model.specs.Characters.{is_quote, is_structural, is_white}
 use Rattle.jp_cut.specs.Machine.{behind, is_closing, is_opening, xor}
-use Rattle.jp_cut.specs.Passing.{Passes, StaysOpen, behind_all}
+use Rattle.jp_cut.specs.Passing.{Passes, StaysOpen, behind_all, open_before}
 use Rattle.jp_cut.specs.declared.machine.Place.{Place}
 use Rattle.jp_cut.specs.declared.machine.Known.{Known}
-use Rattle.jp_cut.proofs.Passing.{behind_all-more}
+use Rattle.jp_cut.proofs.Passing.{behind_all-more, stays_more}
 
 -- a bracket that opens, outside strings
 abbrev pub opens : Known → ℕ → Bool
@@ -30,7 +30,7 @@ abbrev pub closes : Known → ℕ → Bool
 closes known byte = not known.inside && is_closing byte
 
 -- how many bytes pass a test, by what is known before each
-pub count : (Known → ℕ → Bool) → Known → List ℕ → ℕ
+unfoldable pub count : (Known → ℕ → Bool) → Known → List ℕ → ℕ
 count test known [] = 0
 count test known (byte ∷ rest) = cond (test known byte) 1 0 + count test (behind known byte) rest
 
@@ -39,22 +39,28 @@ count test known (byte ∷ rest) = cond (test known byte) 1 0 + count test (behi
 apart : (byte : ℕ) → (is_opening byte && is_closing byte) ≡ false
 apart byte = grind (arith, nat_tests)
 
-depth_step : (inside opening closing : Bool) (d : ℕ) → (opening && closing) ≡ false → cond (not inside && closing) 1 0 < d
+depth_step : (inside opening closing : Bool) (d : ℕ) → (opening && closing) ≡ false → 0 < d
     → (if inside then d else (if opening then d + 1 else (if closing then d - 1 else d))) + cond (not inside && closing) 1 0 ≡ d + cond (not inside && opening) 1 0
-depth_step true opening closing d e few = refl
-depth_step false true true d e few = absurd (cc)
-depth_step false true false d e few = omega arith
-depth_step false false true d e few = omega (arith, few)
-depth_step false false false d e few = refl
+depth_step true opening closing d e some = refl
+depth_step false true true d e some = absurd (cc)
+depth_step false true false d e some = omega arith
+depth_step false false true d e some = omega (arith, some)
+depth_step false false false d e some = refl
 
-pub few_close : (known : Known) (bytes : List ℕ) → count closes known bytes < known.depth
-    → StaysOpen known bytes × ((behind_all known bytes).depth + count closes known bytes ≡ known.depth + count opens known bytes)
+pub few_close : (known : Known) (bytes : List ℕ) → count closes known bytes < known.depth → StaysOpen known bytes
 unfolding count
-few_close known [] few = (few, refl)
+few_close known [] few = few
 few_close known (byte ∷ rest) few =
     let one = depth_step known.inside (is_opening byte) (is_closing byte) known.depth (apart byte) (omega (arith, few)) in
-    let more = few_close (behind known byte) rest (omega (arith, few, one)) in
-    ((omega (arith, few), more.0), omega (arith, one, more.1))
+    (omega (arith, few), few_close (behind known byte) rest (omega (arith, few, one)))
+
+-- and then as many are open as were open and opened, without those that closed
+balance : (known : Known) (bytes : List ℕ) → StaysOpen known bytes → (behind_all known bytes).depth + count closes known bytes ≡ known.depth + count opens known bytes
+unfolding count
+balance known [] stays = refl
+balance known (byte ∷ rest) stays =
+    let one = depth_step known.inside (is_opening byte) (is_closing byte) known.depth (apart byte) stays.0 in
+    omega (arith, one, balance (behind known byte) rest stays.1)
 
 -- ---- a word of which each bit tells of a byte has as many bits as bytes pass
 
@@ -63,7 +69,7 @@ digit_of zero t small e = subst (λ b. zero ≡ cond b 1 0) e refl
 digit_of (suc zero) t small e = subst (λ b. suc zero ≡ cond b 1 0) e refl
 digit_of (suc (suc n)) t small e = absurd (let no : n + 2 < 2 = omega arith in let bad : ⊥ = omega arith in bad)
 
-ones_are : (test : Known → ℕ → Bool) (bytes : List ℕ) (word : ℕ) (known : Known) → word < 2 ^ length bytes
+pub ones_are : (test : Known → ℕ → Bool) (bytes : List ℕ) (word : ℕ) (known : Known) → word < 2 ^ length bytes
     → ((i : ℕ) → i < length bytes → bit word i ≡ test (behind_all known (take i bytes)) (get_or bytes i 0)) → ones word ≡ count test known bytes
 unfolding bit ones ones_in count
 ones_are test [] word known small says = let none : word ≡ 0 = omega (arith, small) in ap ones none
@@ -163,21 +169,115 @@ known_is known place depth inside escaped p d i e = λ t. record { place = p t; 
 
 -- ---- a block is passed over
 
-pub block_passes : (known : Known) (bytes : List ℕ) (first next : Carry) (marks opening closing : ℕ) → length bytes ≡ 64 → Agrees first known
-    → Says marks (λ i. is_marked (before None first bytes i) (get_or bytes i 0)) → next ≡ before None first bytes 64
-    → opening ≡ mask_l (map is_opening bytes) → closing ≡ mask_l (map is_closing bytes)
-    → ones (bit_and marks closing) < known.depth
-    → Passes known bytes (record { place = known.place; depth = known.depth - ones (bit_and marks closing) + ones (bit_and marks opening); inside = next.inside; escaped = next.escaped })
-block_passes known bytes first next marks opening closing long same says carry o c few =
-    let opened = ones_marked known first bytes same long marks opening is_opening says o opening_is in
-    let closed = ones_marked known first bytes same long marks closing is_closing says c closing_is in
-    let all = few_close known bytes (omega (arith, few, closed)) in
-    let last = agrees known first bytes same 64 (omega (arith, long)) in
-    let whole : take 64 bytes ≡ bytes = take_all 64 bytes (omega (arith, long)) in
-    let depth : known.depth - ones (bit_and marks closing) + ones (bit_and marks opening) ≡ (behind_all known bytes).depth = omega (arith, all.1, opened, closed, few) in
-    record {
-      stays = all.0;
-      same = known_is (behind_all known bytes) known.place _ next.inside next.escaped (sym (same_place known bytes)) depth
-          (ap (λ (k : Carry). k.inside) carry ∙ last.inside ∙ ap (λ bs. (behind_all known bs).inside) whole)
-          (ap (λ (k : Carry). k.escaped) carry ∙ last.escaped ∙ ap (λ bs. (behind_all known bs).escaped) whole);
-    }
+same_step : (inside opening closing : Bool) (d : ℕ)
+    → (if not inside && opening then d + 1 else (if not inside && closing then d - 1 else d)) ≡ (if inside then d else (if opening then d + 1 else (if closing then d - 1 else d)))
+same_step true opening closing d = refl
+same_step false opening closing d = refl
+
+outside_of : (inside closing : Bool) → (not inside && closing) ≡ true → inside ≡ false
+outside_of true closing e = absurd (cc)
+outside_of false closing e = refl
+
+-- what is known of a block once it was scanned: these words tell of its marks and of its brackets
+pub record IsScanned (known : Known) (bytes : List ℕ) (first next : Carry) (marks opening closing : ℕ) : Type 0 where
+  pub long : length bytes ≡ 64
+  pub same : Agrees first known
+  pub says : Says marks (λ i. is_marked (before None first bytes i) (get_or bytes i 0))
+  pub carry : next ≡ before None first bytes 64
+  pub opening_is : opening ≡ mask_l (map is_opening bytes)
+  pub closing_is : closing ≡ mask_l (map is_closing bytes)
+
+-- the words of its brackets tell of the bytes before each position
+module _ {known : Known} {bytes : List ℕ} {first next : Carry} {marks opening closing : ℕ} (s : IsScanned known bytes first next marks opening closing) where
+  abbrev now : ℕ → Known
+  now i = behind_all known (take i bytes)
+
+  abbrev opened : ℕ
+  opened = bit_and marks opening
+
+  abbrev closed : ℕ
+  closed = bit_and marks closing
+
+  depth_at : (i : ℕ) → i ≤ 64 → open_before opened closed known.depth i ≡ (now i).depth
+  unfolding open_before
+  depth_at zero within = refl
+  depth_at (suc i) within =
+      let byte = get_or bytes i 0 in
+      let d = open_before opened closed known.depth i in
+      let low : i < 64 = omega (arith, within) in
+      ap₂ (λ a b. if a then d + 1 else (if b then d - 1 else d)) (bits_are known first bytes s.same s.long marks opening is_opening s.says s.opening_is opening_is i low) (bits_are known first bytes s.same s.long marks closing is_closing s.says s.closing_is closing_is i low)
+      ∙ ap (λ n. if opens (now i) byte then n + 1 else (if closes (now i) byte then n - 1 else n)) (depth_at i (omega (arith, within)))
+      ∙ same_step (now i).inside (is_opening byte) (is_closing byte) (now i).depth
+      ∙ ap (λ (k : Known). k.depth) (sym (next_known known first bytes s.same i (omega (arith, low, s.long))))
+
+  pub stays_at : (n : ℕ) → n ≤ 64 → ((i : ℕ) → i ≤ n → 0 < open_before opened closed known.depth i) → StaysOpen known (take n bytes)
+  stays_at zero within all = subst (λ d. 0 < d) (depth_at 0 within) (all 0 (omega arith))
+  stays_at (suc n) within all =
+      let e : suc n ≡ n + 1 = omega arith in
+      let more : take (suc n) bytes ≡ take n bytes ++ get_or bytes n 0 ∷ [] = ap (λ k. take k bytes) e ∙ take_more bytes n 0 (omega (arith, within, s.long)) in
+      let last : 0 < (now (suc n)).depth = subst (λ d. 0 < d) (depth_at (suc n) within) (all (suc n) (omega arith)) in
+      subst (StaysOpen known) (sym more)
+      (stays_more known (take n bytes) (get_or bytes n 0) (stays_at n (omega (arith, within)) (λ i low. all i (omega (arith, low))))
+      (subst (λ (k : Known). 0 < k.depth) (next_known known first bytes s.same n (omega (arith, within, s.long))) last))
+
+  pub one_at : (n : ℕ) → n < 64 → open_before opened closed known.depth n ≡ 1 → (now n).depth ≡ 1
+  one_at n within one = sym (depth_at n (omega (arith, within))) ∙ one
+
+  pub outside_at : (n : ℕ) → n < 64 → bit closed n ≡ true → (now n).inside ≡ false
+  outside_at n within closes_there =
+      outside_of (now n).inside (is_closing (get_or bytes n 0)) (sym (bits_are known first bytes s.same s.long marks closing is_closing s.says s.closing_is closing_is n within) ∙ closes_there)
+
+  whole : take 64 bytes ≡ bytes
+  whole = take_all 64 bytes (omega (arith, s.long))
+
+  -- fewer close than are open
+  pub few_stay : ones closed < known.depth → StaysOpen known bytes
+  few_stay few = few_close known bytes (omega (arith, few, ones_marked known first bytes s.same s.long marks closing is_closing s.says s.closing_is closing_is))
+
+  -- none closes the last
+  pub all_stay : ((i : ℕ) → i ≤ 64 → 0 < open_before opened closed known.depth i) → StaysOpen known bytes
+  all_stay all = subst (StaysOpen known) whole (stays_at 64 (omega arith) all)
+
+  -- as many close as opened or were open, at most
+  pub at_most : StaysOpen known bytes → ones closed ≤ known.depth + ones opened
+  at_most stays =
+      let opens_are = ones_marked known first bytes s.same s.long marks opening is_opening s.says s.opening_is opening_is in
+      let closes_are = ones_marked known first bytes s.same s.long marks closing is_closing s.says s.closing_is closing_is in
+      omega (arith, balance known bytes stays, opens_are, closes_are)
+
+  pub block_passes : StaysOpen known bytes → Passes known (take 64 bytes) (record { place = known.place; depth = known.depth + ones opened - ones closed; inside = next.inside; escaped = next.escaped })
+  block_passes stays =
+      let opens_are = ones_marked known first bytes s.same s.long marks opening is_opening s.says s.opening_is opening_is in
+      let closes_are = ones_marked known first bytes s.same s.long marks closing is_closing s.says s.closing_is closing_is in
+      let last = agrees known first bytes s.same 64 (omega (arith, s.long)) in
+      let bytes_are = ap (behind_all known) (sym whole) in
+      let depth : known.depth + ones opened - ones closed ≡ (behind_all known bytes).depth = omega (arith, balance known bytes stays, opens_are, closes_are) in
+      record {
+        stays = subst (StaysOpen known) (sym whole) stays;
+        same = known_is (now 64) known.place _ next.inside next.escaped (sym (same_place known (take 64 bytes)))
+            (depth ∙ ap (λ (k : Known). k.depth) bytes_are)
+            (ap (λ (k : Carry). k.inside) s.carry ∙ last.inside)
+            (ap (λ (k : Carry). k.escaped) s.carry ∙ last.escaped);
+      }
+
+-- ---- before a bracket that closes the last
+
+differs : (byte : ℕ) → (byte ≡ 0x5C → ⊥) → (byte == 0x5C) ≡ false
+differs byte other = elim (eqb_tells byte 0x5C) [ inl same ↦ absurd (other same.1) | inr no_other ↦ no_other.0 ]
+
+not_escaped : (known : Known) (bytes : List ℕ) (n : ℕ) → 0 < n → n ≤ length bytes → (get_or bytes (n - 1) 0 ≡ 0x5C → ⊥) → (behind_all known (take n bytes)).escaped ≡ false
+not_escaped known bytes n some within other =
+    let e : n ≡ (n - 1) + 1 = omega (arith, some) in
+    let byte = get_or bytes (n - 1) 0 in
+    let front = take (n - 1) bytes in
+    ap (λ (k : Known). k.escaped) (ap (behind_all known) (ap (λ k. take k bytes) e ∙ take_more bytes (n - 1) 0 (omega (arith, some, within))) ∙ behind_all-more known front byte)
+    ∙ ap (λ b. b && not (behind_all known front).escaped) (differs byte other)
+
+pub passes_to : (known : Known) (bytes : List ℕ) (n : ℕ) → 0 < n → n ≤ length bytes → (get_or bytes (n - 1) 0 ≡ 0x5C → ⊥)
+    → StaysOpen known (take n bytes) → (behind_all known (take n bytes)).depth ≡ 1 → (behind_all known (take n bytes)).inside ≡ false
+    → Passes known (take n bytes) (record { place = known.place; depth = 1; inside = false; escaped = false })
+passes_to known bytes n some within other stays one outside = record {
+  stays = stays;
+  same = known_is (behind_all known (take n bytes)) known.place 1 false false (sym (same_place known (take n bytes))) (sym one) (sym outside)
+      (sym (not_escaped known bytes n some within other));
+}

@@ -2,6 +2,7 @@
 mod Depth
 mod Taking
 pub mod Passing
+mod BracketBits
 mod Blocks
 mod Holding
 mod MarkLaw

@@ -5,7 +5,8 @@ ghost use Rattle.jp_cut.specs.Cuts.{line_feeds_in};
 
 use crate::front::may_become_mark;
 use crate::machine::{Known, Pieces, Place, Turn, is_inside, nothing_open, step_on};
-use crate::skipping::pass_open;
+use crate::skipping::{BLOCK, pass_on};
+use jp_lanes::classify;
 use jp_model::without_byte_order_mark;
 use memchr::memchr;
 use std::alloc::{AllocError, Global};
@@ -21,13 +22,33 @@ pub struct PieceAt {
     pub line_feeds: u64,
 }
 
+/// How many line feeds are among a few bytes.
+fn count_in_rest(bytes: &[u8]) -> usize
+    ensures { result ≡ line_feeds_in bytes.now }
+{
+    bytes.iter().filter(|byte| **byte == b'\n').count()
+}
+
+/// How many line feeds are among some bytes, counted block by block.
+fn count_in_blocks(bytes: &[u8]) -> usize
+    ensures { result ≡ line_feeds_in bytes.now }
+{
+    let mut count = 0;
+    let mut from = 0;
+    while let Some(block) = bytes[from..].first_chunk::<BLOCK>() {
+        count += classify(block).line_feed.count_ones() as usize;
+        from += BLOCK;
+    }
+    count + count_in_rest(&bytes[from..])
+}
+
 /// How many line feeds are among some bytes. Most pieces have none.
 fn count_line_feeds(bytes: &[u8]) -> usize
     ensures { result ≡ line_feeds_in bytes.now }
 {
     match memchr(b'\n', bytes) {
         None => 0,
-        Some(_) => bytes.iter().filter(|byte| **byte == b'\n').count(),
+        Some(_) => count_in_blocks(bytes),
     }
 }
 
@@ -242,7 +263,7 @@ impl Cutter {
         self.next_behind_mark()
     }
 
-    /// Passes over the bytes that leave a bracket of the piece open.
+    /// Passes over bytes that do not end the open piece.
     fn pass_over(&mut self)
         requires { self.old.is_front ≡ false }
         ensures read { (pieces : Pieces) (stream : List ℕ) (handed : List Piece) → HasRead pieces stream handed self.old
@@ -252,10 +273,7 @@ impl Cutter {
         ensures start { self.new.start ≡ self.old.start }
         ensures front { self.new.is_front ≡ false }
     {
-        if self.known.depth == 0 || !is_inside(self.known.place) {
-            return;
-        }
-        let passed = pass_open(self.known, &self.held[self.cut..]);
+        let passed = pass_on(self.pieces, self.known, &self.held[self.cut..]);
         self.cut += passed.len;
         self.known = passed.known;
     }

@@ -1,4 +1,4 @@
-//! A run: the files in turn, a sink, and the writer of messages behind a buffer that is written out at the end.
+//! A run: the files in turn, a sink, and the buffered writer of messages, whose buffer is written out at the end.
 
 ghost use Rattle.std.specs.Prelude.{◌≡◌, ◌&&◌, ◌||◌, [], false, true, not, is_err, map, IfOk, List, MatchResult};
 ghost use Rattle.jp_devices.specs.Devices.{Came, GaveUpTo};
@@ -34,7 +34,7 @@ const NOT_SELECTED: u8 = 1;
 /// The exit status where something was refused or failed.
 const FAULT: u8 = 2;
 
-/// A run over files: what they are asked, the sink that is told of them, the writer of the messages behind a buffer of 8192 bytes,
+/// A run over files: what they are asked, the sink that is told of them, the writer of the messages with a buffer of 8192 bytes,
 /// and what came of the files so far.
 #[derive(Drop)]
 pub struct Run<'q, S: Sink + Drop, E: Write + Drop> {

@@ -2,7 +2,7 @@
 
 use crate::foreign::foreign_message;
 use crate::lists::Lists;
-use crate::opening::Looking;
+use crate::opening::{Looking, Opening};
 use crate::output::{Output, Printer, RegularFile};
 use jp_context::Context;
 use jp_devices::StandardInput;
@@ -17,7 +17,7 @@ use std::alloc::AllocError;
 use std::fs;
 use std::io::{ErrorKind, IsTerminal, Read, Stderr};
 
-/// What goes through the files, and tells `S` what they give.
+/// The search through the files in turn, which tells `S` what it finds.
 #[derive(Drop)]
 pub(crate) struct Searcher<'q, S: Sink + Drop> {
     pub(crate) rt: &'q HostRuntime,
@@ -198,13 +198,17 @@ impl<S: Sink + Drop> Searcher<'_, S> {
             return Next::Stop;
         }
         let form = self.options.form(name.own, name.told, self.coloured);
-        let mut input = Input::new(Watched::new(Looking::new(input)));
+        let opening = match form.units {
+            Units::Lines(Framing::Lines) => Opening::new(),
+            _ => Opening::unseen(),
+        };
+        let mut input = Input::new(Watched::new(Looking::new(input, opening)));
         let found = self.run.search(&form, &mut input);
         let opening = input.into_reader().into_inner().opening();
         match &found {
             // The line may have come and not be refused yet.
             Ok(found) if found.unread.is_some() => {}
-            _ if opening.goes_on() && form.units == Units::Lines(Framing::Lines) => self.hint(name),
+            _ if opening.goes_on() => self.hint(name),
             _ => {}
         }
         match found {

@@ -1,6 +1,10 @@
 //! Whether the first line of a stream begins a JSON text that goes on in the next one.
 
+use jp_lanes::are_ascii;
+use jp_masks::{Carry, scan_block};
+use jp_model::Framing;
 use std::io::{self, Read};
+use std::simd::prelude::*;
 
 /// How far the bytes of a line are UTF-8 (RFC 3629, section 4): which bytes may come next.
 #[derive(Clone, Copy)]
@@ -52,13 +56,45 @@ impl Utf8 {
     }
 }
 
+/// How many bytes are counted at once.
+const BLOCK: usize = 64;
+
+/// The lanes that are one of two bytes.
+fn either(lanes: u8x64, first: u8, second: u8) -> u64 {
+    let firsts = lanes.simd_eq(u8x64::splat(first));
+    let seconds = lanes.simd_eq(u8x64::splat(second));
+    (firsts | seconds).to_bitmask()
+}
+
+/// The bits before the lowest of some, or all where there is none.
+fn before_first(bits: u64) -> u64 {
+    !bits & bits.wrapping_sub(1)
+}
+
+/// A byte that is no bracket, quotation mark, reverse solidus or line feed.
+const FILLER: u8 = b' ';
+
+/// At most 64 bytes at the end of a block. What is known before them is known before the block too, but for an escape, which
+/// stands in the block.
+fn block_of(part: &[u8], is_escaped: bool) -> [u8; BLOCK] {
+    let mut block = [FILLER; BLOCK];
+    let from = BLOCK.saturating_sub(part.len());
+    for (place, byte) in block[from..].iter_mut().zip(part) {
+        *place = *byte;
+    }
+    if is_escaped && from > 0 {
+        block[from - 1] = b'\\';
+    }
+    block
+}
+
 /// Where one stands in the first line of a stream that is not blank.
 #[derive(Clone, Copy)]
 enum Place {
     /// In front of it, and how many bytes of a byte order mark came.
     Front { mark: usize },
-    /// In it, within a string or not.
-    Within { in_string: bool, is_escaped: bool },
+    /// In it, and what is known before its next byte.
+    Within(Carry),
     /// After it, or in a line that is no beginning of an array or object.
     Behind,
 }
@@ -85,6 +121,15 @@ impl Opening {
         }
     }
 
+    /// Of a stream whose first line is not looked at.
+    pub(crate) fn unseen() -> Opening {
+        Opening {
+            place: Place::Behind,
+            utf8: Utf8::WHOLE,
+            open: 0,
+        }
+    }
+
     /// Whether the line begins an array or an object, more brackets are open in it than are closed, outside strings, and it is
     /// UTF-8: so it is refused as `grammar`.
     pub(crate) fn goes_on(&self) -> bool {
@@ -93,16 +138,23 @@ impl Opening {
 
     /// Takes the bytes that come next.
     fn pass(&mut self, bytes: &[u8]) {
-        for byte in bytes {
+        for part in self.pass_front(bytes).chunks(BLOCK) {
             match self.place {
-                Place::Front { mark } => self.begin(mark, *byte),
-                Place::Within {
-                    in_string,
-                    is_escaped,
-                } => self.go_on(in_string, is_escaped, *byte),
-                Place::Behind => return,
+                Place::Within(before) => self.go_on(before, part),
+                Place::Front { .. } | Place::Behind => return,
             }
         }
+    }
+
+    /// Takes the bytes in front of the line and the one that begins it, and returns those after them.
+    fn pass_front<'b>(&mut self, bytes: &'b [u8]) -> &'b [u8] {
+        for (index, byte) in bytes.iter().enumerate() {
+            match self.place {
+                Place::Front { mark } => self.begin(mark, *byte),
+                Place::Within(_) | Place::Behind => return &bytes[index..],
+            }
+        }
+        &[]
     }
 
     /// Takes a byte in front of the line.
@@ -114,10 +166,7 @@ impl Opening {
         match byte {
             b'{' | b'[' => {
                 self.open = 1;
-                self.place = Place::Within {
-                    in_string: false,
-                    is_escaped: false,
-                };
+                self.place = Place::Within(Carry::START);
             }
             b' ' | b'\t' | b'\r' | b'\n' => {
                 self.place = Place::Front {
@@ -128,29 +177,40 @@ impl Opening {
         }
     }
 
-    /// Takes a byte of the line.
-    fn go_on(&mut self, in_string: bool, is_escaped: bool, byte: u8) {
-        let Some(utf8) = self.utf8.pass(byte) else {
-            self.open = 0;
-            self.place = Place::Behind;
-            return;
+    /// Takes at most 64 bytes of the line, and of what follows it.
+    fn go_on(&mut self, before: Carry, part: &[u8]) {
+        let block = block_of(part, before.escaped);
+        let found = scan_block(&block, Some(Framing::Lines), before);
+        let lanes = u8x64::from_array(block);
+        let marks = found.marks & before_first(found.ends);
+        let opened = (marks & either(lanes, b'[', b'{')).count_ones();
+        let closed = (marks & either(lanes, b']', b'}')).count_ones();
+        self.open = self.open.saturating_add(i64::from(opened)).saturating_sub(i64::from(closed));
+        self.place = if found.ends == 0 {
+            Place::Within(found.next)
+        } else {
+            Place::Behind
         };
-        self.utf8 = utf8;
-        let mut stays = in_string;
-        match byte {
-            b'\n' => {
-                self.place = Place::Behind;
+        if !are_ascii(&block) || self.utf8.wanted > 0 {
+            self.read_characters(part);
+        }
+    }
+
+    /// Takes the bytes of the line as UTF-8. What is none opens nothing.
+    fn read_characters(&mut self, part: &[u8]) {
+        for byte in part {
+            if *byte == b'\n' && self.utf8.wanted == 0 {
                 return;
             }
-            b'"' if !is_escaped => stays = !in_string,
-            b'{' | b'[' if !in_string => self.open = self.open.saturating_add(1),
-            b'}' | b']' if !in_string => self.open = self.open.saturating_sub(1),
-            _ => {}
+            match self.utf8.pass(*byte) {
+                Some(utf8) => self.utf8 = utf8,
+                None => {
+                    self.open = 0;
+                    self.place = Place::Behind;
+                    return;
+                }
+            }
         }
-        self.place = Place::Within {
-            in_string: stays,
-            is_escaped: in_string && !is_escaped && byte == b'\\',
-        };
     }
 }
 
@@ -163,11 +223,8 @@ pub(crate) struct Looking<R> {
 
 impl<R> Looking<R> {
     /// A reader with nothing read from it yet.
-    pub(crate) fn new(reader: R) -> Looking<R> {
-        Looking {
-            reader,
-            opening: Opening::new(),
-        }
+    pub(crate) fn new(reader: R, opening: Opening) -> Looking<R> {
+        Looking { reader, opening }
     }
 
     /// What its first line opens.

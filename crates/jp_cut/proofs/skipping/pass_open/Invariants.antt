@@ -1,6 +1,6 @@
 use Rattle.std.proofs.Common.{◌+◌, ◌-◌, ◌<◌, ◌≤◌, length, take}
 use Rattle.jp_cut.specs.Passing.{Passes}
-use Rattle.jp_cut.proofs.skipping.pass_blocks.Given as goal
+use Rattle.jp_cut.proofs.skipping.pass_open.Given as goal
 
 abbrev pub invariant-loop-block : goal.invariant-loop-block
 invariant-loop-block l = record {
