@@ -197,6 +197,17 @@ def failed_reads(room):
         check(f"{words}, a read that fails", (run.stdout, run.stderr, run.returncode), (rows, told + b"jpgrep: (standard input): cannot read\n", 2))
 
 
+def terminal_colours(room):
+    """At a terminal rows have colours, unless the environment asks for none."""
+    cases = (({"TERM": "xterm"}, True), ({"TERM": "xterm", "NO_COLOR": ""}, True), ({"TERM": "xterm", "NO_COLOR": "1"}, False), ({"TERM": "dumb"}, False), ({}, False))
+    for environment, coloured in cases:
+        master, terminal = pty.openpty()
+        subprocess.run([PROGRAM, "--color", "$.a"], cwd=room, input=b'{"a":1}\n', stdout=terminal, env=environment, timeout=SECONDS)
+        os.close(terminal)
+        check(f"colours at a terminal with {environment}", b"\x1b[" in os.read(master, 4096), coloured)
+        os.close(master)
+
+
 def first_bytes(room):
     """A sequence whose first bytes are none is refused as they come, and so is data of another format, whose mark may come byte by
     byte. A byte order mark in two pieces is none the less one."""
@@ -427,6 +438,7 @@ def main():
         own_output(room)
         own_messages(room)
         failed_reads(room)
+        terminal_colours(room)
         first_bytes(room)
         follows("lines of a fifo", ["-n", "$.a"], LINES, room)
         follows("texts of a fifo", ["-n", "--seq", "$.a"], TEXTS, room)

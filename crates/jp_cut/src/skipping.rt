@@ -158,8 +158,8 @@ fn pass_block(known: Known, block: &[u8; 64]) -> Passed
     }
 }
 
-/// Passes over bytes of a piece that leave a bracket of it open: whole blocks, and of the one in which the last bracket closes the
-/// bytes before that.
+/// Passes over bytes of a piece that leave a bracket of it open: whole blocks, and of the one in which the last bracket closes
+/// the bytes before that.
 #[inline(never)]
 fn pass_open(known: Known, bytes: &[u8]) -> Passed
     requires some { 0 < known.depth }

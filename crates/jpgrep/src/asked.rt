@@ -1,6 +1,7 @@
 //! The question that the program's arguments ask.
 
-use crate::note::meant_condition;
+use crate::calls::{add_note, note_condition, note_segments};
+use crate::note::{Note, meant_by_condition, meant_condition};
 use crate::patterns::Warner;
 use crate::refusal::{Refusal, Text};
 use jp_grep::{Origin, Queries, Question, Wanted};
@@ -8,6 +9,7 @@ use jp_options::Options;
 use jp_query::{read_condition, read_query, read_relative_query};
 use jp_syntax::is_singular;
 use jp_types::Checked;
+use std::alloc::AllocError;
 
 /// A query, and where it begins.
 #[derive(Drop)]
@@ -24,23 +26,22 @@ pub(crate) struct AskedList<'a> {
     pub(crate) wanted: bool,
 }
 
-/// The question that is read, what is warned of, and the condition that its first such query probably means.
+/// The question that is read, what is warned of, and the notes on it.
 #[derive(Drop)]
 struct Reader<'r, 'a> {
     rt: &'r HostRuntime,
     question: Question,
     warner: Warner<'r>,
-    meant: Option<&'a str>,
+    notes: Vec<Note<'a>>,
     lists: Vec<AskedList<'a>>,
 }
 
-/// The question without its lists, whether a pattern of it is not valid, the condition that a filter of it probably means, and
-/// the lists.
+/// The question without its lists, whether a pattern of it is not valid, the notes on it, and the lists.
 #[derive(Drop)]
 pub(crate) struct Asked<'a> {
     pub(crate) question: Question,
     pub(crate) has_warnings: bool,
-    pub(crate) meant: Option<&'a str>,
+    pub(crate) notes: Vec<Note<'a>>,
     pub(crate) lists: Vec<AskedList<'a>>,
 }
 
@@ -58,10 +59,19 @@ impl<'r, 'a> Reader<'r, 'a> {
             return Err(Refusal::NotSingular(text));
         }
         self.warner.read_segments(query.segments())?;
-        if self.meant.is_none() && !of_nodes {
-            self.meant = meant_condition(text, query.segments());
+        note_segments(query.segments(), &mut self.notes)?;
+        if !of_nodes {
+            self.note_filter(meant_condition(text, query.segments()))?;
         }
         Ok(self.question.add_query(self.rt.alloc(), origin, &query)?)
+    }
+
+    /// Adds the note on a filter that asks something else than was meant, if there is one.
+    fn note_filter(&mut self, meant: Option<&'a str>) -> Result<(), AllocError> {
+        match meant {
+            Some(condition) => add_note(Note::Filter(condition), &mut self.notes),
+            None => Ok(()),
+        }
     }
 
     /// Asks the nodes of a query one by one, and warns of its patterns.
@@ -69,6 +79,7 @@ impl<'r, 'a> Reader<'r, 'a> {
         match read_query(self.rt.alloc(), text.as_bytes()) {
             Ok(query) => {
                 self.warner.read_segments(query.segments())?;
+                note_segments(query.segments(), &mut self.notes)?;
                 Ok(self.question.ask_each(self.rt.alloc(), &query)?)
             }
             Err(refusal) => Err(Refusal::of(Text::Query(text), refusal)),
@@ -80,6 +91,8 @@ impl<'r, 'a> Reader<'r, 'a> {
         match read_condition(self.rt.alloc(), text.as_bytes()) {
             Ok(condition) => {
                 self.warner.read_condition(condition.expression())?;
+                note_condition(condition.expression(), &mut self.notes)?;
+                self.note_filter(meant_by_condition(text, condition.expression()))?;
                 Ok(self.question.add_condition(self.rt.alloc(), &condition)?)
             }
             Err(refusal) => Err(Refusal::of(Text::Condition(text), refusal)),
@@ -163,7 +176,7 @@ pub(crate) fn read_question<'a>(
         rt,
         question: Question::new(rt.alloc(), wanted(options), purpose(options)),
         warner: Warner::new(rt),
-        meant: None,
+        notes: Vec::new(rt.alloc()),
         lists: Vec::new(rt.alloc()),
     };
     for text in &options.each {
@@ -180,7 +193,7 @@ pub(crate) fn read_question<'a>(
     reader.add_lists(&options.other_lists, false)?;
     Ok(Asked {
         has_warnings: reader.warner.has_warned,
-        meant: reader.meant,
+        notes: reader.notes,
         question: reader.question,
         lists: reader.lists,
     })

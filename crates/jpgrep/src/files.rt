@@ -14,8 +14,8 @@ use jp_model::Watched;
 use jp_options::Options;
 use jp_shown::shown;
 use std::alloc::AllocError;
-use std::fs;
 use std::io::{ErrorKind, IsTerminal, Read, Stderr};
+use std::{env, fs};
 
 /// The search through the files in turn, which tells `S` what it finds.
 #[derive(Drop)]
@@ -71,15 +71,15 @@ fn limit_message(limit: Limit) -> &'static str {
 pub(crate) const CANNOT_WRITE: &str = "cannot write";
 
 /// What is said of an argument whose file cannot be opened. One that looks like a query was hardly meant to be a file.
-fn unopened_message(word: &str, refused: bool, error: ErrorKind) -> &'static str {
-    match error {
-        ErrorKind::NotFound if refused && word.starts_with('$') => {
-            "cannot open: no such file (--refused asks no query)"
-        }
-        ErrorKind::NotFound if word.starts_with('$') => {
-            "cannot open: no such file (a query is given by -e)"
-        }
-        error => open_message(error),
+fn unopened_message(options: &Options<'_>, word: &str, error: ErrorKind) -> &'static str {
+    if error != ErrorKind::NotFound || !word.starts_with('$') {
+        open_message(error)
+    } else if options.refused {
+        "cannot open: no such file (--refused asks no query)"
+    } else if options.survey {
+        "cannot open: no such file (--paths takes no query; --each QUERY surveys its nodes)"
+    } else {
+        "cannot open: no such file (a query is given by -e)"
     }
 }
 
@@ -257,8 +257,7 @@ impl<S: Sink + Drop> Searcher<'_, S> {
                 self.search_other(name, file, RegularFile::of(metadata))
             }
             Err(error) => {
-                let refused = self.options.refused;
-                self.tell(name, unopened_message(name.own, refused, error.kind()));
+                self.tell(name, unopened_message(self.options, name.own, error.kind()));
                 Next::GoOn
             }
         }
@@ -340,9 +339,22 @@ fn find_output(rt: &HostRuntime, options: &Options<'_>) -> Option<RegularFile> {
     }
 }
 
+/// Whether the environment asks for no colours at a terminal: `NO_COLOR` is there and not empty, or `TERM` is `dumb` or is not
+/// there.
+fn wants_no_colours(rt: &HostRuntime) -> bool {
+    match env::var(rt, "NO_COLOR") {
+        Ok(value) if !value.is_empty() => return true,
+        _ => {}
+    }
+    match env::var(rt, "TERM") {
+        Ok(name) => name.as_str() == "dumb",
+        Err(_) => true,
+    }
+}
+
 /// Whether what is printed has colours.
 fn is_coloured(rt: &HostRuntime, options: &Options<'_>) -> bool {
-    options.is_coloured(rt.stdout().is_terminal())
+    options.is_coloured(rt.stdout().is_terminal() && !wants_no_colours(rt))
 }
 
 /// Whether no file is looked at, since no line is wanted and no name of a file without one.

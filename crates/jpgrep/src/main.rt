@@ -2,6 +2,7 @@
 #![tactic(auto)]
 
 mod asked;
+mod calls;
 mod counted;
 mod excerpt;
 mod files;
@@ -20,10 +21,11 @@ mod unknown;
 
 use crate::asked::{Asked, read_question};
 use crate::counted::count_files;
-use crate::files::{CANNOT_WRITE, search_files};
+use crate::files::{CANNOT_WRITE, Searched, search_files};
 use crate::lists::{Lists, read_lists};
-use crate::note::tell_note;
+use crate::note::Note;
 use crate::refusal::Refusal;
+use crate::shell::quoted;
 use crate::unknown::find_foreign;
 use clap::Error;
 use clap::error::ErrorKind;
@@ -82,17 +84,41 @@ fn tell_words(rt: &HostRuntime, words: &[&str], error: &Error) -> u8 {
     }
 }
 
-/// Tells of the condition that a filter probably means, unless messages are suppressed.
+/// Tells what was probably meant by a question that selected nothing, unless nothing is printed.
 fn tell_meant(
     rt: &HostRuntime,
     options: &Options<'_>,
-    meant: Option<&str>,
+    notes: &[Note<'_>],
 ) -> Result<(), AllocError> {
-    match meant {
-        Some(condition) if !options.silent && !options.quiet && !options.inverted => {
-            tell_note(rt, condition)
+    if options.quiet || options.inverted {
+        return Ok(());
+    }
+    for note in notes {
+        note.tell(rt)?;
+    }
+    Ok(())
+}
+
+/// Says of an argument that begins as a query does that it is taken for a file.
+fn tell_other_queries(rt: &HostRuntime, options: &Options<'_>) -> Result<(), AllocError> {
+    for word in options.files() {
+        if word.starts_with(|c: char| c == '$' || c == '@') {
+            let quoted = quoted(rt.alloc(), word)?;
+            let _ = eprintln!(rt;
+                "jpgrep: note: {quoted} is taken for a file; another query is given by -e"
+            );
         }
-        _ => Ok(()),
+    }
+    Ok(())
+}
+
+/// The exit status of a search. A pattern that is not valid is a fault, whatever was selected: nobody knows what it was to
+/// select.
+fn status_of(options: &Options<'_>, searched: Searched, has_warnings: bool) -> u8 {
+    if has_warnings && !(options.quiet && searched.has_selected) {
+        FAULT
+    } else {
+        searched.status
     }
 }
 
@@ -101,11 +127,12 @@ fn answer<'a>(rt: &HostRuntime, options: &Options<'a>) -> Result<u8, Refusal<'a>
     let Asked {
         mut question,
         has_warnings,
-        meant,
+        notes,
         lists,
     } = read_question(rt, options)?;
     if options.checks {
-        tell_meant(rt, options, meant)?;
+        tell_meant(rt, options, &notes)?;
+        tell_other_queries(rt, options)?;
         return Ok(if has_warnings { WARNED } else { TOLD });
     }
     let lists = read_lists(rt, options, lists, &mut question)?;
@@ -121,9 +148,9 @@ fn answer<'a>(rt: &HostRuntime, options: &Options<'a>) -> Result<u8, Refusal<'a>
         search_files(rt, options, &question, lists)?
     };
     if !searched.has_selected {
-        tell_meant(rt, options, meant)?;
+        tell_meant(rt, options, &notes)?;
     }
-    Ok(searched.status)
+    Ok(status_of(options, searched, has_warnings))
 }
 
 /// Does what the arguments ask for, and gives the exit status.

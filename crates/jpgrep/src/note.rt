@@ -1,4 +1,4 @@
-//! A note on a query whose filter asks the members of a line's value, where the line itself was probably meant.
+//! Notes on a question that may ask something else than was meant.
 
 use crate::shell::quoted;
 use jp_syntax::{Argument, Call, Comparable, Logical, Origin, Path, Segment, Selector};
@@ -90,17 +90,19 @@ fn closing_bracket(text: &str) -> Option<usize> {
     None
 }
 
-/// The text of the filter that a query begins with.
+/// The text of the filter that a query begins with, after its `$` or `@`.
 fn filter_in(query: &str) -> Option<&str> {
-    let rest = query.strip_prefix('$')?.trim_start();
+    let rest = query
+        .strip_prefix(|c: char| c == '$' || c == '@')?
+        .trim_start();
     let rest = rest.strip_prefix('[')?.trim_start();
     let rest = rest.strip_prefix('?')?;
     let end = closing_bracket(rest)?;
     Some(rest.get(..end)?.trim())
 }
 
-/// The condition that was probably meant by a query: its first segment is one filter, which asks a name of `@`, and so a member of
-/// each member of the line's value (RFC 9535, section 2.3.5.2).
+/// The condition that was probably meant by a query: its first segment is one filter, which asks a name of `@`, and so a member
+/// of each member of the line's value (RFC 9535, section 2.3.5.2).
 pub(crate) fn meant_condition<'a>(text: &'a str, segments: &[Segment]) -> Option<&'a str> {
     match segments.first() {
         Some(Segment::Child(selectors)) => match selectors.as_slice() {
@@ -111,11 +113,43 @@ pub(crate) fn meant_condition<'a>(text: &'a str, segments: &[Segment]) -> Option
     }
 }
 
-/// Tells of such a condition, quoted for a shell.
-pub(crate) fn tell_note(rt: &HostRuntime, condition: &str) -> Result<(), AllocError> {
-    let quoted = quoted(rt.alloc(), condition)?;
-    let _ = eprintln!(rt;
-        "jpgrep: note: the filter asks the members of a line's value; of the line itself asks -w {quoted}"
-    );
-    Ok(())
+/// The condition that was probably meant by one that is a query alone, in the same way.
+pub(crate) fn meant_by_condition<'a>(text: &'a str, condition: &Logical) -> Option<&'a str> {
+    match condition {
+        Logical::Exists(path) => meant_condition(text, &path.segments),
+        _ => None,
+    }
+}
+
+/// What a question may ask that was not meant.
+#[derive(Clone, Copy, Debug, PartialEq, Eq)]
+pub(crate) enum Note<'a> {
+    /// A filter asks the members of a line's value; the line itself is asked by this condition.
+    Filter(&'a str),
+    /// A pattern begins with `^` or ends with `$`, which stand for themselves (RFC 9485, section 4).
+    Anchor(char),
+    /// The first argument of `match` or `search` is a text that stands in the query, and the second a path (RFC 9535, sections
+    /// 2.4.6 and 2.4.7).
+    Exchanged,
+}
+
+impl Note<'_> {
+    /// Tells it.
+    pub(crate) fn tell(&self, rt: &HostRuntime) -> Result<(), AllocError> {
+        let _ = match self {
+            Note::Filter(condition) => {
+                let quoted = quoted(rt.alloc(), condition)?;
+                eprintln!(rt;
+                    "jpgrep: note: the filter asks the members of a line's value; of the line itself asks -w {quoted}"
+                )
+            }
+            Note::Anchor(mark) => eprintln!(rt;
+                "jpgrep: note: '{mark}' stands for itself in a pattern: match asks of a whole text, search of any part of it"
+            ),
+            Note::Exchanged => eprintln!(rt;
+                "jpgrep: note: match and search take the text first, and then the pattern, as in search(@.a, \"x\")"
+            ),
+        };
+        Ok(())
+    }
 }

@@ -1,60 +1,9 @@
 //! Whether the first line of a stream begins a JSON text that goes on in the next one.
 
-use jp_lanes::are_ascii;
 use jp_masks::{Carry, scan_block};
 use jp_model::Framing;
 use std::io::{self, Read};
 use std::simd::prelude::*;
-
-/// How far the bytes of a line are UTF-8 (RFC 3629, section 4): which bytes may come next.
-#[derive(Clone, Copy)]
-struct Utf8 {
-    /// The bytes that the character so far still wants.
-    wanted: u8,
-    /// The least byte that may come next, where some are wanted.
-    least: u8,
-    /// The greatest.
-    most: u8,
-}
-
-impl Utf8 {
-    /// After a whole character.
-    const WHOLE: Utf8 = Utf8 {
-        wanted: 0,
-        least: 0x80,
-        most: 0xBF,
-    };
-
-    /// A number of bytes is wanted, and the next lies between these.
-    fn wants(wanted: u8, least: u8, most: u8) -> Utf8 {
-        Utf8 {
-            wanted,
-            least,
-            most,
-        }
-    }
-
-    /// What may follow a byte, or nothing where it may not come.
-    fn pass(self, byte: u8) -> Option<Utf8> {
-        if self.wanted > 0 {
-            if byte < self.least || byte > self.most {
-                return None;
-            }
-            return Some(Utf8::wants(self.wanted - 1, 0x80, 0xBF));
-        }
-        match byte {
-            0x00..=0x7F => Some(Utf8::WHOLE),
-            0xC2..=0xDF => Some(Utf8::wants(1, 0x80, 0xBF)),
-            0xE0 => Some(Utf8::wants(2, 0xA0, 0xBF)),
-            0xED => Some(Utf8::wants(2, 0x80, 0x9F)),
-            0xE1..=0xEF => Some(Utf8::wants(2, 0x80, 0xBF)),
-            0xF0 => Some(Utf8::wants(3, 0x90, 0xBF)),
-            0xF4 => Some(Utf8::wants(3, 0x80, 0x8F)),
-            0xF1..=0xF3 => Some(Utf8::wants(3, 0x80, 0xBF)),
-            _ => None,
-        }
-    }
-}
 
 /// How many bytes are counted at once.
 const BLOCK: usize = 64;
@@ -74,18 +23,20 @@ fn before_first(bits: u64) -> u64 {
 /// A byte that is no bracket, quotation mark, reverse solidus or line feed.
 const FILLER: u8 = b' ';
 
-/// At most 64 bytes at the end of a block. What is known before them is known before the block too, but for an escape, which
-/// stands in the block.
-fn block_of(part: &[u8], is_escaped: bool) -> [u8; BLOCK] {
-    let mut block = [FILLER; BLOCK];
+/// At most 64 bytes at the end of a block, and what is known before the block: what is known before the bytes, but that an
+/// escape stands in the block where it has more than these bytes.
+fn block_of(part: &[u8], before: Carry) -> ([u8; BLOCK], Carry) {
     let from = BLOCK.saturating_sub(part.len());
+    let mut block = [FILLER; BLOCK];
+    let mut first = before;
+    if before.escaped && from > 0 {
+        block[from - 1] = b'\\';
+        first.escaped = false;
+    }
     for (place, byte) in block[from..].iter_mut().zip(part) {
         *place = *byte;
     }
-    if is_escaped && from > 0 {
-        block[from - 1] = b'\\';
-    }
-    block
+    (block, first)
 }
 
 /// Where one stands in the first line of a stream that is not blank.
@@ -103,7 +54,6 @@ enum Place {
 #[derive(Clone, Copy)]
 pub(crate) struct Opening {
     place: Place,
-    utf8: Utf8,
     /// How many more brackets and braces are open than are closed.
     open: i64,
 }
@@ -116,7 +66,6 @@ impl Opening {
     pub(crate) fn new() -> Opening {
         Opening {
             place: Place::Front { mark: 0 },
-            utf8: Utf8::WHOLE,
             open: 0,
         }
     }
@@ -125,15 +74,14 @@ impl Opening {
     pub(crate) fn unseen() -> Opening {
         Opening {
             place: Place::Behind,
-            utf8: Utf8::WHOLE,
             open: 0,
         }
     }
 
-    /// Whether the line begins an array or an object, more brackets are open in it than are closed, outside strings, and it is
-    /// UTF-8: so it is refused as `grammar`.
+    /// Whether the line begins an array or an object, and more brackets are open in it than are closed, outside strings: so it
+    /// is refused.
     pub(crate) fn goes_on(&self) -> bool {
-        self.open > 0 && self.utf8.wanted == 0
+        self.open > 0
     }
 
     /// Takes the bytes that come next.
@@ -179,38 +127,21 @@ impl Opening {
 
     /// Takes at most 64 bytes of the line, and of what follows it.
     fn go_on(&mut self, before: Carry, part: &[u8]) {
-        let block = block_of(part, before.escaped);
-        let found = scan_block(&block, Some(Framing::Lines), before);
+        let (block, first) = block_of(part, before);
+        let found = scan_block(&block, Some(Framing::Lines), first);
         let lanes = u8x64::from_array(block);
         let marks = found.marks & before_first(found.ends);
         let opened = (marks & either(lanes, b'[', b'{')).count_ones();
         let closed = (marks & either(lanes, b']', b'}')).count_ones();
-        self.open = self.open.saturating_add(i64::from(opened)).saturating_sub(i64::from(closed));
+        self.open = self
+            .open
+            .saturating_add(i64::from(opened))
+            .saturating_sub(i64::from(closed));
         self.place = if found.ends == 0 {
             Place::Within(found.next)
         } else {
             Place::Behind
         };
-        if !are_ascii(&block) || self.utf8.wanted > 0 {
-            self.read_characters(part);
-        }
-    }
-
-    /// Takes the bytes of the line as UTF-8. What is none opens nothing.
-    fn read_characters(&mut self, part: &[u8]) {
-        for byte in part {
-            if *byte == b'\n' && self.utf8.wanted == 0 {
-                return;
-            }
-            match self.utf8.pass(*byte) {
-                Some(utf8) => self.utf8 = utf8,
-                None => {
-                    self.open = 0;
-                    self.place = Place::Behind;
-                    return;
-                }
-            }
-        }
     }
 }
 

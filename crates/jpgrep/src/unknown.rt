@@ -110,6 +110,41 @@ const FOREIGN: &[Foreign] = &[
         instead: "there is none: -- stands between lines around a line that do not touch",
     },
     Foreign {
+        letter: Some('u'),
+        words: &["unique"],
+        instead: "there is none: --tally counts equal values",
+    },
+    Foreign {
+        letter: None,
+        words: &["line-buffered", "unbuffered"],
+        instead: "rows are written as soon as their lines are there: leave it out",
+    },
+    Foreign {
+        letter: None,
+        words: &["pretty", "indent"],
+        instead: "each row is one line; jq . prints it over several",
+    },
+    Foreign {
+        letter: None,
+        words: &["compact-output"],
+        instead: "each row is one line: leave it out",
+    },
+    Foreign {
+        letter: None,
+        words: &["sort", "sort-by"],
+        instead: "rows come in the order of the lines; sort, after a |, orders them",
+    },
+    Foreign {
+        letter: None,
+        words: &["limit", "head", "max-results"],
+        instead: "the first lines are asked by -m, as in -m 10",
+    },
+    Foreign {
+        letter: None,
+        words: &["raw-output"],
+        instead: "-r prints strings as their text",
+    },
+    Foreign {
         letter: None,
         words: &["colour"],
         instead: "it is spelled --color",
