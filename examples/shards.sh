@@ -127,15 +127,17 @@ as_one() {
         }'
 }
 over_blocks() {
-    local blocks=$1 name=$2 file=$2 status=0 before=0 part
+    local blocks=$1 name=$2 file=$2 status=0 checked=0 before=0 part
     is_number "$blocks"
     case $file in -*) file=./$file ;; esac
     is_cuttable "$file"
     read_arguments "${@:3}"
     enter
-    # What jpgrep writes before it reads a line, such as what is wrong with a query, is written once.
+    # What jpgrep writes before it reads a line, such as what is wrong with a query, is written once. After a pattern that is not
+    # valid, of which --check warns with status 1, it goes on, and ends with status 2 in any case.
+    jpgrep --check "${arguments[@]}" > /dev/null 2>&1 || checked=$?
     jpgrep "${arguments[@]}" < /dev/null > /dev/null 2> "$room/common" || status=$?
-    [ $status -le 1 ] || { cat "$room/common" >&2; exit $((status == 2 ? 2 : 3)); }
+    [ $status -le 1 ] || [ $status,$checked = 2,1 ] || { cat "$room/common" >&2; exit $((status == 2 ? 2 : 3)); }
     # Compressed data are refused as a whole; their first bytes are enough to recognize them.
     status=0
     head -c 16 "$file" | jpgrep -q --refused 2> /dev/null || status=$?

@@ -418,7 +418,8 @@ def search_all(client, name, arguments, blocks, program, out):
     """Runs jpgrep over the blocks of a file, and returns its exit status and its messages."""
     others, is_counted = others_of(arguments)
     early = run_alone(arguments, program)
-    if early.status == 2:
+    # After a pattern that is not valid, of which --check warns, a search goes on.
+    if early.status == 2 and run_alone(["--check", *arguments], program).status != 1:
         return 2, early.said
     if is_other_format(name, program):
         whole = run_alone([*arguments, os.path.join(".", name) if name.startswith("-") else name], program)
