@@ -47,7 +47,7 @@ function helpWithOperator(before, rest) {
 // What is meant by a word where a value was to stand.
 function helpWithValue(word) {
   if (/^(true|false)$/i.test(word)) return 'true and false are written in small letters';
-  if (/^null$/i.test(word) || ['None', 'nil', 'undefined'].includes(word)) return 'that there is no value is null';
+  if (/^null$/i.test(word) || ['None', 'nil', 'undefined'].includes(word)) return 'what has no value is null, as in @.a == null';
   return 'a string stands in quotes, as in "b", and a path begins with @ or $, as in @.b';
 }
 

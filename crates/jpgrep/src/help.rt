@@ -99,7 +99,7 @@ fn help_with_value(word: &str) -> &'static str {
         return "true and false are written in small letters";
     }
     if word.eq_ignore_ascii_case("null") || word == "None" || word == "nil" || word == "undefined" {
-        return "that there is no value is null";
+        return "what has no value is null, as in @.a == null";
     }
     "a string stands in quotes, as in \"b\", and a path begins with @ or $, as in @.b"
 }

@@ -25,7 +25,6 @@ use crate::files::{CANNOT_WRITE, Searched, search_files};
 use crate::lists::{Lists, read_lists};
 use crate::note::Note;
 use crate::refusal::Refusal;
-use crate::shell::quoted;
 use crate::unknown::find_foreign;
 use clap::Error;
 use clap::error::ErrorKind;
@@ -47,7 +46,7 @@ const WARNED: u8 = 1;
 /// The exit status where something was refused or failed.
 const FAULT: u8 = 2;
 
-/// The characters of an option that is not known which are shown.
+/// The characters of an option that is not known, or of a query that is taken for a file, which are shown.
 const MOST_SHOWN: usize = 80;
 
 /// Says why the arguments are refused.
@@ -103,9 +102,9 @@ fn tell_meant(
 fn tell_other_queries(rt: &HostRuntime, options: &Options<'_>) -> Result<(), AllocError> {
     for word in options.files() {
         if word.starts_with(|c: char| c == '$' || c == '@') {
-            let quoted = quoted(rt.alloc(), word)?;
+            let word = shown(rt.alloc(), word, MOST_SHOWN)?;
             let _ = eprintln!(rt;
-                "jpgrep: note: {quoted} is taken for a file; another query is given by -e"
+                "jpgrep: note: '{word}' is taken for a file; another query is given by -e"
             );
         }
     }
