@@ -187,6 +187,22 @@ pub record IsScanned (known : Known) (bytes : List ℕ) (first next : Carry) (ma
   pub opening_is : opening ≡ mask_l (map is_opening bytes)
   pub closing_is : closing ≡ mask_l (map is_closing bytes)
 
+-- what is known of strings before a piece goes on
+abbrev pub first_of : Known → Carry
+first_of known = record { escaped = known.escaped; inside = known.inside; may_begin = false }
+
+pub is_scanned : (known : Known) (bytes : List ℕ) (next : Carry) (marks opening closing : ℕ) → length bytes ≡ 64
+    → Says marks (λ i. is_marked (before None (first_of known) bytes i) (get_or bytes i 0)) → next ≡ before None (first_of known) bytes 64
+    → opening ≡ mask_l (map is_opening bytes) → closing ≡ mask_l (map is_closing bytes) → IsScanned known bytes (first_of known) next marks opening closing
+is_scanned known bytes next marks opening closing long says carry o c = record {
+  long = long;
+  same = record { inside = refl; escaped = refl };
+  says = says;
+  carry = carry;
+  opening_is = o;
+  closing_is = c;
+}
+
 -- the words of its brackets tell of the bytes before each position
 module _ {known : Known} {bytes : List ℕ} {first next : Carry} {marks opening closing : ℕ} (s : IsScanned known bytes first next marks opening closing) where
   abbrev now : ℕ → Known

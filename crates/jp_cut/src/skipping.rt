@@ -68,8 +68,8 @@ fn first_bit(word: u64, from: usize) -> usize
     from + rest.trailing_zeros() as usize
 }
 
-/// Where the last open bracket of a piece closes among 64 bytes, or 64 where one stays open. The bits tell which bytes open a
-/// bracket and which close one.
+/// The position among 64 bytes of the bracket that closes the last open one of a piece, or 64 if one stays open. The bits tell
+/// which bytes open a bracket and which close one.
 fn find_end(depth: usize, opening: u64, closing: u64) -> usize
     requires some { 0 < depth }
     requires few { depth + BLOCK ≤ usize.MAX }

@@ -7,10 +7,10 @@ use jp_query::{Expected, FaultPlace};
 /// Blanks are no part of a query (RFC 9535, section 2.1.1).
 const NO_BLANKS: &str = "no blank stands before or after a query";
 
-/// What asks of a part of a text.
+/// The help with a question about a part of a text.
 const A_PART: &str = "a part of a text is asked by search, as in search(@.a, \"x\")";
 
-/// Quotes that no text of a query has around it.
+/// The help with quotes that are none in a query.
 const STRAIGHT_QUOTES: &str = "quotes are straight, as in \"x\" or 'x'";
 
 /// Whether a character is a quote as books print it.
@@ -66,7 +66,7 @@ fn help_with_operator(before: &str, rest: &str) -> Option<&'static str> {
     help_with_asking_word(rest)
 }
 
-/// What RFC 9535 has for the words by which other languages ask of a value.
+/// The help with words by which other languages ask of a value.
 fn help_with_asking_word(rest: &str) -> Option<&'static str> {
     const WORDS: &[(&str, &str)] = &[
         (

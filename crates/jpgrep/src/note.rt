@@ -121,7 +121,7 @@ pub(crate) fn meant_by_condition<'a>(text: &'a str, condition: &Logical) -> Opti
     }
 }
 
-/// What a question may ask that was not meant.
+/// A note on a question that may ask something else than was meant.
 #[derive(Clone, Copy, Debug, PartialEq, Eq)]
 pub(crate) enum Note<'a> {
     /// A filter asks the members of a line's value; the line itself is asked by this condition.
